@@ -116,8 +116,7 @@ def texts_by_number(content: bytes, path: str, column: str, most: int,
     found: dict[str, str] = {}
     for row in below_header(content, path, ["number", column]):
         wrong, fields = "", [field.decode("utf-8", "replace") for field in row.fields]
-        if row.fields[0].isdigit():
-            fields[0] = fields[0].zfill(7)
+        fields[0] = fields[0].zfill(7) if row.fields[0].isdigit() else fields[0]
         if not row.closed or len(fields) != 2:
             wrong = f"a row has a number and a {column}; put quotes around a {column} with a comma"
         elif not is_number(fields[0].encode()):

@@ -122,13 +122,6 @@ class Known:
         elif kind == "candidates":
             self.codes.update((row[0], row[2]) for row in rows)
 
-    def sharing(self) -> dict[bytes, list[bytes]]:
-        """The numbers with each access code, the least first."""
-        found = defaultdict[bytes, list[bytes]](list)
-        for number in sorted(self.codes):
-            found[self.codes[number]].append(number)
-        return found
-
     def passed_limit(self) -> str | None:
         """The first limit that is passed, in words, or none."""
         for kind, most in LIMITS.items():
@@ -311,14 +304,16 @@ class File:
         """Notes what the rows refer to and nobody knows."""
         for column, _, table in self.columns if self.first else ():
             if table and not self.known.keys[table]:
-                cannot = self.known.keys[table] is None
-                why = f"{table}.csv could not be read whole" if cannot else f"no {table} are known"
+                is_known = self.known.keys[table] is not None
+                why = f"no {table} are known" if is_known else f"{table}.csv could not be read whole"
                 self.notes.add(1, column, f"{why}, so these are not compared")
 
     def note_together(self) -> None:
         """Notes what rows say together, and beside what the office knows."""
         people = self.first.values() if self.kind == "candidates" else ()
-        sharing, twins = self.known.sharing() if people else {}, Counter(record.fields[1:] for record in people)
+        twins, sharing = Counter(record.fields[1:] for record in people), defaultdict[bytes, list[bytes]](list)
+        for number in sorted(self.known.codes) if people else ():
+            sharing[self.known.codes[number]].append(number)
         for record in self.first.values():
             code = record.fields[2] if people else b""
             if code and len(sharing[code]) > 1:
@@ -336,8 +331,8 @@ class File:
 def sharers(number: bytes, sharing: Sequence[bytes], is_twin: bool) -> Cure:
     """Which of those who share an access code have it beside a number, the first three."""
     others = [files.shown(other)[1:-1] for other in sharing[:4] if other != number][:3]
-    return Cure(f"{', '.join(others)} {'have' if len(others) > 1 else 'has'} the same access code"
-                + (" and the same name: one candidate under two numbers?" if is_twin else ""))
+    same = f"the same access code as {', '.join(others)}"
+    return Cure(f"{same}, and the same name: one candidate under two numbers?" if is_twin else same)
 
 
 def beginning_of(text: bytes) -> str:
@@ -373,5 +368,5 @@ def fault_of(record: files.Record, wanted: int) -> str:
         cure = EMPTY_ROW
     if count != wanted:
         why = cure if record.closed else "a quote is not closed"
-        return f"{lists.count(count, 'field')} in place of {wanted}; {why}"
+        return f"{count} in place of {wanted} fields; {why}"
     return "" if any(record.fields) else EMPTY_ROW

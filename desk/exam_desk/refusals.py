@@ -143,8 +143,7 @@ def lasting_cause(office: Office) -> str | None:
 
 
 def no_writing(place: str) -> str | None:
-    is_allowed = os.access(place, os.R_OK | os.W_OK | os.X_OK)
-    return None if is_allowed else f"no permission to write in the folder {place}"
+    return None if os.access(place, os.R_OK | os.W_OK | os.X_OK) else f"no permission to write in the folder {place}"
 
 
 def no_room(place: str) -> str | None:

@@ -39,6 +39,7 @@ class Number(IntegerConverter):
 
 
 def make(here: Desk) -> Flask:
+    """The pages of a desk behind its guard; every fault becomes a page."""
     app = Flask(__name__)
     app.extensions["desk"] = here
     app.extensions["guard"] = guard.Guard(app, here.address, here.prefix)
@@ -96,10 +97,8 @@ def problem(fault: Exception) -> ResponseReturnValue:
     """A fault in words: of a request, or what the package, a file or the database refuses."""
     said, status = wording.said(str(fault)), 500
     if isinstance(fault, HTTPException):
-        if fault.code == 401 and request.method == "POST":
-            return guard.page("visit"), 401
         if fault.code == 401:
-            return redirect(url_for("entering.page"))
+            return (guard.page("visit"), 401) if request.method == "POST" else redirect(url_for("entering.page"))
         status = fault.code or 500
         said = text(PROBLEMS[fault.code]) if fault.code in PROBLEMS else escape(fault.description)
     elif isinstance(fault, OSError) and fault.errno in NO_ROOM:

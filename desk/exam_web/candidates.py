@@ -32,6 +32,7 @@ Values = dict[str, str]
 
 @pages.get("/candidates")
 def find() -> str | Response:
+    """The search; where it finds one candidate alone it leads to that one's page."""
     asked = request.args.get("q", "").strip()[:MOST_ASKED]
     found = search(asked) if asked else []
     if len(found) == 1:
@@ -50,8 +51,8 @@ def search(asked: str) -> list[Person]:
 
 
 def papers_without(number: int = -1) -> list[sqlite3.Row]:
-    """The papers for which a candidate is not entered, without those of second sittings, which have a form of their own:
-    those of sessions that are over stand last."""
+    """The papers for which a candidate is not entered, those of sessions that are over last; without those of second
+    sittings, which have a form of their own."""
     made = {second["code"] for _, second in second_sitting.pairs(view().reading.rows)}
     found = view().rows("SELECT paper.code AS code, title, session, day FROM paper JOIN session "
                         "ON session.code = session WHERE paper.code NOT IN (SELECT paper FROM entry WHERE number = ?) "
@@ -61,6 +62,7 @@ def papers_without(number: int = -1) -> list[sqlite3.Row]:
 
 @pages.get("/candidates/<int:number>")
 def page(number: int, code: str = "") -> str:
+    """All of a candidate; the access code only where it was asked for."""
     who, seven = candidate_row(number), f"{number:07}"
     reading, entries = view().reading, view().rows(texts.ENTRIES, [number])
     later = {first["code"] for first, second in second_sitting.pairs(reading.rows)
@@ -153,7 +155,8 @@ def clashes() -> str:
     sessions = {each.code: each for each in sums(view()).values() if each.clashes}
     shown = sessions.get(request.args.get("session", "")) or next(iter(sessions.values()), None)
     found = Session(shown.code).clashes(MOST_SHOWN) if shown else []
-    lodged = view().rows("SELECT * FROM appeal WHERE kind = 2 AND session = ? ORDER BY lodged", [shown and shown.code])
+    lodged = view().rows("SELECT * FROM appeal WHERE kind = 2 AND session = ? ORDER BY state DESC, lodged",
+                         [shown and shown.code])  # of somebody's appeals the open one counts, else what was decided
     return render_template("clashes.html", sessions=sessions.values(), s=shown, found=found,
                            asked={row["number"]: row for row in lodged}, titles=facts.paper_titles(view().reading.rows))
 
@@ -241,6 +244,7 @@ def lodge(form: Form) -> Plan:
 
 
 def decide(form: Form) -> Plan:
+    """A decision on an appeal, with its answer; which one it is must be chosen."""
     values, _ = candidate(form)
     values |= {"ref": form.get("ref", ""), "outcome": form.get("outcome", "")}
     found = appeal_row(int(values["number"]), values["ref"])

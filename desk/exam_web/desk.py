@@ -22,11 +22,9 @@ from exam_desk.trouble import Trouble
 PATIENCE, LONG = 4, 3600  # seconds that a page, and a form, waits for the office to be read
 MANY, TURN = 200, 0.005  # candidates who are asked of at once, and the seconds that others have their turn then
 COPYING, COUNTING = "Its files are copied and read", "Candidates and desks are counted"
-AT_ONCE = ("SELECT session, printf('%07d', number), group_concat(code) FROM (SELECT session, number, paper.code AS code "
-           "FROM entry JOIN paper ON paper.code = entry.paper WHERE live = 1 ORDER BY session, number, paper.code) "
-           "GROUP BY session, number HAVING count(*) > 1 ORDER BY 1, 2")
-UNSEATED = ("SELECT session, printf('%07d', number) FROM (SELECT session, number FROM entry "
-            "JOIN paper ON code = paper WHERE live = 1 EXCEPT SELECT session, number FROM seat)")
+ENTERED = "SELECT session, printf('%07d', number) FROM entry JOIN paper ON code = paper WHERE live = 1"
+AT_ONCE = f"{ENTERED} GROUP BY session, number HAVING count(*) > 1 ORDER BY session, number"
+UNSEATED = f"{ENTERED} EXCEPT SELECT session, printf('%07d', number) FROM seat"
 Found = TypeVar("Found")
 Asked = ParamSpec("Asked")
 
@@ -73,6 +71,7 @@ def once(make: Callable[Concatenate[View, Asked], Found]) -> Callable[Concatenat
     """What is worked out of a view is worked out once. Who waits for another request that does it waits as `patience`
     says, and raises `StillReading` then."""
     def found(view: View, /, *asked: Asked.args, **more: Asked.kwargs) -> Found:
+        """One lock for each value, so that who asks for another does not wait."""
         key = (make, asked, *more.items())
         lock = view.locks.setdefault(key, threading.RLock())  # one step, so each thread gets the same
         if not lock.acquire(timeout=patience()):
@@ -124,12 +123,11 @@ def unseated(view: View) -> set[tuple[str, str]]:
 
 
 @once
-def two_papers(view: View) -> dict[str, dict[str, str]]:
-    """By session, in the order of their days, the numbers of those who have two live entries in it, each with these
-    papers."""
-    found: dict[str, dict[str, str]] = {code: {} for code, *_ in facts.sessions(view.reading.rows)}
-    for code, number, papers in view.rows(AT_ONCE):
-        found[code][number] = papers
+def two_papers(view: View) -> dict[str, list[str]]:
+    """By session, if there are any, the numbers of those who have two live entries in it."""
+    found: dict[str, list[str]] = {}
+    for code, number in view.rows(AT_ONCE):
+        found.setdefault(code, []).append(number)
     return found
 
 
@@ -140,6 +138,7 @@ class Desk:
     """
 
     def __init__(self, office: Office, address: str, prefix: str, pretended: bool) -> None:
+        """Nothing is read yet: there may be no office."""
         self.office, self.address, self.prefix = office, address, prefix
         self.pretended = pretended  # whether the day is not the clock's
         self.rehearsing = threading.Lock()  # one rehearsal at a time: each takes a core

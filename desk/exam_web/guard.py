@@ -94,6 +94,7 @@ class Guard:
     """Checks every request before a route sees it, and dresses every answer."""
 
     def __init__(self, app: Flask, address: str, prefix: str) -> None:
+        """An answer goes out by `door` alone: who serves the application itself has no check of the host."""
         self.app, self.address, self.prefix = app, address, prefix
         self.visits: dict[str, Visit] = {}  # by the hash of their cookie
         self.mark = secrets.token_urlsafe(24)  # of all visits: a form that outlives its own is sent by the next one

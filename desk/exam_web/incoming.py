@@ -5,7 +5,7 @@ No name that a browser sends becomes a path: it is compared and shown. A zip is 
 import datetime
 import itertools
 import zipfile
-from collections.abc import Iterable, Iterator
+from collections.abc import Iterable, Iterator, Mapping
 from dataclasses import dataclass, field, replace
 from pathlib import PureWindowsPath
 from typing import IO
@@ -17,7 +17,7 @@ from exam_desk import backups, files, mistakes
 from exam_desk.trouble import Trouble
 from exam_desk.workbook.cells import MOST_CELLS, MOST_FILE
 from exam_desk.workbook.cells import Book as OpenBook
-from exam_desk.workbook.headers import is_called_list
+from exam_desk.workbook.headers import Given, folded, is_called_list, read_columns
 from exam_desk.workbook.opening import book_of
 from exam_desk.workbook.reading import Reading, encoded, read_book
 from exam_desk.workbook.tables import Job, Line, together
@@ -27,8 +27,7 @@ from exam_web.wording import said, shown, text
 
 MOST_MEMBERS = 64  # of a zip
 MOST_NAME = 80  # letters that are shown
-HIDDEN = "hidden"  # stands in the lines of a reading that speak of hidden rows and sheets
-NO_TABLES = (".pdf", ".doc", ".docx", ".odt", ".rtf", ".pages", ".jpg", ".jpeg", ".png", ".gif", ".webp", ".heic")
+NO_TABLE = (".pdf", ".doc", ".docx", ".odt", ".rtf", ".pages", ".jpg", ".jpeg", ".png", ".gif", ".webp", ".heic")
 OPEN = "~$"  # how the name begins of the file that Excel keeps beside a workbook that is open in it
 
 
@@ -54,6 +53,7 @@ class Upload:
     texts: dict[str, bytes] = field(default_factory=dict)  # by kind
     notes: list[Markup] = field(default_factory=list)
     workbooks: list[Book] = field(default_factory=list)
+    columns: tuple[Mapping[str, Given], Way] | None = None  # what a file of columns says of all workbooks
     when: str = field(default_factory=lambda: datetime.datetime.now().isoformat(" ", "minutes"))
     is_called_list: bool = False  # a file or a sheet of entries is called withdrawals or reinstatements
     names: list[str] = field(default_factory=list)  # of the files, as the browser gave them
@@ -102,6 +102,7 @@ def bare(path: str) -> str:
 
 
 def take_zip(upload: Upload, name: str, stream: IO[bytes], way: Way) -> None:
+    """Takes each file of a zip by its bare name; one of too many files is left whole."""
     try:
         with zipfile.ZipFile(stream) as archive:
             members = [each for each in archive.infolist() if not each.is_dir() and bare(each.filename)]
@@ -116,10 +117,18 @@ def take_zip(upload: Upload, name: str, stream: IO[bytes], way: Way) -> None:
 
 
 def take(upload: Upload, name: str, content: bytes, way: Way, most: int = files.MOST_BYTES) -> None:
-    """Puts one of the seven files, as an import takes them, under its kind; all else is to be read as a workbook."""
+    """Keeps one of the seven files, as an import takes it, or a file of columns; all else is to be a workbook."""
     first = next(files.records(content[:1 << 12]), None)
     if why := refusal(name, content, most):
         upload.note(name, why)
+    elif name.lower().endswith(".toml") and upload.columns:
+        upload.note(name, text("another file says already what headers mean: bring one alone"))
+    elif name.lower().endswith(".toml"):
+        try:
+            upload.columns = read_columns("", content)
+            upload.note(name, text("what it says of headers and words holds for the workbooks that come with it"))
+        except Trouble as trouble:
+            upload.note(name, said(trouble.sentence))
     elif kind := next((kind for kind in files.HEADERS if files.is_header(kind, first)), None):
         upload.take(kind, content, name)
     else:
@@ -128,17 +137,14 @@ def take(upload: Upload, name: str, content: bytes, way: Way, most: int = files.
 
 def refusal(name: str, content: bytes, most: int) -> Markup | None:
     """Why a file is not looked through, as far as its name, its length and its first bytes say."""
-    if name.startswith(OPEN):
-        return text("it only says that a workbook is open: save and close that, then bring it")
-    if not content.strip():
-        return text("it is empty: save it once more, then bring it again")
-    if name.lower().endswith(NO_TABLES):
-        return text("it is no table: bring what a spreadsheet saves as .xlsx, .ods or CSV")
-    if name.lower().endswith(".numbers"):
-        return text("Numbers wrote it: export it there as Excel or CSV, and bring that")
-    if content.startswith(backups.OFFICE):
-        return text("it is an office: the page Office takes a backup back")
-    return text("it has more than {most} bytes: split it", most=most) if len(content) > most else None
+    reasons = [
+        (name.startswith(OPEN), text("it only says that a workbook is open: save and close that, then bring it")),
+        (not content.strip(), text("it is empty: save it once more, then bring it again")),
+        (name.lower().endswith(NO_TABLE), text("it is no table: bring what a spreadsheet saves as .xlsx, .ods or CSV")),
+        (name.lower().endswith(".numbers"), text("Numbers wrote it: export it there as Excel or CSV, and bring that")),
+        (content.startswith(backups.OFFICE), text("it is an office: the page Office takes a backup back")),
+        (len(content) > most, text("it has more than {most} bytes: split it", most=most))]
+    return next((why for is_so, why in reasons if is_so), None)
 
 
 def take_books(upload: Upload, books: list[Book]) -> None:
@@ -172,24 +178,25 @@ def with_cells(upload: Upload, books: list[Book]) -> Iterator[tuple[Book, OpenBo
         yield book, found
 
 
-def rows_beside(upload: Upload, book: Book) -> dict[str, list[tuple[bytes, ...]]]:
-    """What the files bring that are taken, and the workbooks that were read, without one of them."""
+def read_beside(upload: Upload, book: Book, opened: OpenBook) -> Reading | None:
+    """Reads a workbook by the rules of `office read`, beside the office, the files taken and the workbooks that
+    were read. What a file of columns says of a sheet holds for the workbook that has it."""
     brought = {kind: [record.fields for record in below_header(content)] for kind, content in upload.texts.items()}
     others = [brought, *(other.rows for other in upload.workbooks if other is not book)]
-    return {kind: [row for other in others for row in other.get(kind, [])
-                   if len(row) == len(header) and all(map(files.is_utf_8, row))]
-            for kind, header in files.HEADERS.items()}
-
-
-def read_beside(upload: Upload, book: Book, opened: OpenBook) -> Reading | None:
-    """Reads a workbook by the rules of `office read`, beside the office and what the other files bring."""
+    beside = {kind: [row for other in others for row in other.get(kind, [])
+                     if len(row) == len(header) and all(map(files.is_utf_8, row))]
+              for kind, header in files.HEADERS.items()}
     sheets = [replace(sheet, rows=dict(sheet.rows)) for sheet in opened.sheets]  # hidden rows may be taken out of these
     names = [sheet.name for sheet in sheets if sheet.hidden or book.hidden == "take"]
-    beside, known = rows_beside(upload, book), mistakes.Known(view().reading.rows)
+    known, there = mistakes.Known(view().reading.rows), {folded(sheet.name) for sheet in sheets}
     for kind, rows in beside.items():
         known.take(kind, rows)
     days = {session.decode(): date.decode() for session, date, _ in beside["sessions"]}
-    job = Job(known, book.way, sheets=names if book.hidden == "take" else None,
+    given, way = upload.columns or ({}, book.way)
+    is_whole = opened.form == "csv" or len(upload.workbooks) == 1  # else another workbook may have the sheet
+    given = {kind: says for kind, says in given.items() if is_whole or not says.sheet or folded(says.sheet) in there}
+    way = book.way._replace(words=way.words, dates=book.way.dates or way.dates)
+    job = Job(known, way, given, names if book.hidden == "take" else None,
               leave=names if book.hidden == "leave" else [], hidden=book.hidden, days=days)
     try:
         reading = read_book(opened._replace(sheets=sheets), job)
@@ -213,7 +220,7 @@ def take_book(upload: Upload, book: Book, opened: OpenBook, reading: Reading) ->
                         key=lambda line: line.sort != "mistake")
     book.mistakes, book.changes = report.count("mistake"), report.count("change")
     book.has_hidden = any(sheet.hidden or sheet.hidden_rows for sheet in opened.sheets) and (
-        book.hidden != "" or any(HIDDEN in line.text for line in report.lines))
+        book.hidden != "" or any("hidden" in line.text for line in report.lines))
     book.has_dates = book.way.dates != "" or any(BOTH_DATES in line.text for line in report.lines)
     if book.mistakes:
         return

@@ -64,6 +64,7 @@ def page() -> str:
 
 @pages.get("/office/copies/<key>")
 def copy(key: str) -> str:
+    """What is another since a copy, and what would be lost by it; what it holds where there is no office to compare."""
     path = copy_of(key)
     when, what = copies.when_and_what(path)
     now: View | None = None
@@ -148,6 +149,7 @@ def handbook() -> str:
 
 @pages.post("/office/keep")
 def keep() -> Response:
+    """Has candidates served at a port, or no longer."""
     what, port = request.form.get("what"), request.form.get("port", "")
     if what == "stop":
         keeping.stop(office())

@@ -61,12 +61,12 @@ class Effects(effects.Effects):
     """What a change does, as the page shows it: to people, the gravest first, and to sessions."""
 
     def __init__(self, before: View, after: View) -> None:
+        """Lists are cut where the page ends them; counts are whole."""
         then, now, was, are = before.reading, after.reading, sums(before), sums(after)
         super().__init__(then, now, MOST_CLASHES)
         self.to_tell = [each for each in self.changes if each.is_to_tell()]
         self.desk_only = Counter(each.session for each in self.kinds.get("desk", []))  # by session
-        # candidates who have no page before it is done
-        self.new = facts.access_codes(now.rows).keys() - facts.access_codes(then.rows).keys()
+        self.new = facts.access_codes(now.rows).keys() - facts.access_codes(then.rows).keys()  # without a page before
         self.sessions = [(was.get(code), are.get(code)) for code in {**are, **was} if code in self.touched
                          and not (code in was and code in are and NUMBERS(was[code]) == NUMBERS(are[code]))]
         self.rows = [*itertools.islice(telling.other_values(then, now), MOST_ROWS)]
@@ -223,6 +223,7 @@ def work(plan: Plan, task: Callable[[Plan, Desk, Office], None]) -> None:
     here, who = desk(), office()
 
     def run() -> None:
+        """What goes wrong in the thread stands on the page; a fault of the desk is raised too, for the terminal."""
         try:
             with here.rehearsing:
                 task(plan, here, who)
@@ -297,6 +298,7 @@ def forms_of_codes() -> dict[str, str]:
 
 @pages.get("/proposals/<key>")
 def page(key: str) -> str:
+    """A plan at its stage: how far it is, what it would change or has changed, or why it cannot be."""
     plan: Plan = g.visit.proposals.get(key) or abort(404)
     if plan.is_working:
         return render_template("working.html", p=plan, seconds=int(time.monotonic() - plan.began))
@@ -310,6 +312,7 @@ def page(key: str) -> str:
 
 @pages.post("/proposals/<key>/do")
 def do(key: str) -> Response:
+    """Does what was rehearsed, once, if each tick that it wants is there."""
     plan: Plan = g.visit.proposals.get(key) or abort(404)
     with plan.lock:  # a second click does nothing
         if plan.can_be_done:

@@ -21,6 +21,7 @@ pages = Blueprint("season", __name__)
 MOST_SHOWN = 12  # lines of what needs attention
 SOON, URGENT = 14, 3  # days before a session, or the last day to lodge; before the last day to decide, or to print
 MOST_ASKED = 2_000  # candidates with printed papers of whom the page itself asks the program
+UNHEARD = {None: "clashes", 3: "refused"}  # of two papers at once: the line by the state of an appeal, or of none
 LEVELS = ["late", "now", "soon", "note"]
 
 
@@ -35,6 +36,7 @@ class Attention(NamedTuple):
 
 @pages.get("/")
 def page() -> str:
+    """The season, or where there is no office how one begins. As a piece, or with `all`, it has asked of everybody."""
     if not desk().is_there():
         return render_template("begin.html")
     found = list(sums(view()).values())
@@ -96,6 +98,7 @@ def broken_off() -> Iterator[Attention]:
 
 
 def open_appeals() -> list[Attention]:
+    """A line for each session with open appeals, by the last day to decide them."""
     kinds: dict[tuple[str, str], Counter[str]] = {}
     for kind, code, day in view().rows("SELECT kind, session, day FROM appeal JOIN session ON session.code = session "
                                        "WHERE state = 1 ORDER BY day, start, session"):
@@ -107,16 +110,18 @@ def open_appeals() -> list[Attention]:
 
 
 def clashes(coming: list[Sums]) -> Iterator[Attention]:
-    """How many have two papers at once and no appeal on it that is open or decided: by the last day to lodge one or,
-    where that is over, by the day of the session."""
-    heard = set(map(tuple, view().rows("SELECT session, printf('%07d', number) FROM appeal "
-                                       "WHERE kind = 2 AND state IN (1, 2, 3)")))
+    """How many have two papers at once and no appeal on it that is open or granted, and apart how many of them were
+    refused: by the last day to lodge one or, where that is over, by the day of the session."""
+    states = {(code, number): state for code, number, state in view().rows(
+        "SELECT session, printf('%07d', number), min(state) FROM appeal WHERE kind = 2 AND state <= 3 GROUP BY 1, 2")}
     for each in coming:
         last = appeals.to_lodge("clash", each.day)
         level, day = "now" if days_until(last) <= URGENT else "soon", last if days_until(last) >= 0 else each.day
-        if count := sum((each.code, number) not in heard for number in two_papers(view())[each.code]):
-            yield Attention(level, day, "clashes", url_for("clashes.page", session=each.code),
-                            {"count": count, "session": each.code})
+        counts = Counter(states.get((each.code, number)) for number in two_papers(view()).get(each.code, ()))
+        for state, what in UNHEARD.items():
+            if counts[state]:
+                yield Attention(level, day, what, url_for("clashes.page", session=each.code),
+                                {"count": counts[state], "session": each.code})
 
 
 def next_days(coming: list[Sums]) -> tuple[list[Sums], list[Sums]]:

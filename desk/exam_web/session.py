@@ -80,7 +80,7 @@ class Session:
     def clashes(self, most: int) -> list[tuple[Member, list[str]]]:
         """Who has two papers at once, and which ones they miss, both as the program says. Who is asked of has two live
         entries in the rows."""
-        numbers = [*two_papers(view()).get(self.code, {})][:most]
+        numbers = two_papers(view()).get(self.code, [])[:most]
         missed = view().reading.clashes(self.code, numbers)
         return [(member, missed[member.number]) for member in view().reading.members(self.code, numbers)
                 if member.number in missed]
@@ -88,6 +88,7 @@ class Session:
 
 @pages.get("/sessions/<code>")
 def page(code: str) -> str:
+    """A session between its neighbours by day, with all that is done about it."""
     shown, codes = Session(code), [*sums(view())]
     before, _, after = [None, *codes, None][codes.index(code):][:3]
     lodged = view().rows(f"{APPEALS} WHERE appeal.session = ? ORDER BY state, appeal.number, ref LIMIT ?",
@@ -104,17 +105,10 @@ def shortage(view: View, code: str) -> dict[str, Any]:
     """Why a session is short: the program's own account; for some of those without a desk their needs, and the halls by
     reason; what could help; and what they need that no hall has."""
     why, sheet = reasons.compared(view.reading, code)
-    found = [(member, why.needs(member), by_reason(why.of(member))) for member in why.unseated()[:MOST_EXPLAINED]]
+    found = [(member, why.needs(member), [(hall, reason.partition(": ")[0]) for hall, reason in why.of(member)])
+             for member in why.unseated()[:MOST_EXPLAINED]]  # who sits in a full hall is left out
     return {"sheet": sheet, "reasons": found, "remedies": remedies.best(view.reading.rows, why, sheet),
             "lacking": remedies.lacking(view.reading.rows, why)}
-
-
-def by_reason(halls: list[tuple[str, str]]) -> dict[str, list[str]]:
-    """The halls by reason; who sits in a full one is left out."""
-    found: dict[str, list[str]] = {}
-    for hall, reason in halls:
-        found.setdefault(reason.partition(": ")[0], []).append(hall)
-    return found
 
 
 @pages.get("/sessions/<code>/halls/<hall>", endpoint="hall")
@@ -180,8 +174,7 @@ def note_absent(code: str) -> Response:
 
 @pages.get("/sessions/<code>/attendance.csv")
 def attendance_csv(code: str) -> Response:
-    Session(code)
-    return attached(notebook.attendance(view().reading, code).encode(), f"{code}-attendance.csv")
+    return attached(notebook.attendance(view().reading, Session(code).code).encode(), f"{code}-attendance.csv")
 
 
 @pages.get("/sessions/<code>/seats.csv")

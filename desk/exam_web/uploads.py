@@ -6,10 +6,11 @@ from typing import NamedTuple
 from flask import Blueprint, abort, g, render_template, request
 from werkzeug.wrappers import Response
 
-from exam_desk import coding, dumping, facts, files, mistakes
+from exam_desk import coding, dumping, files, mistakes
 from exam_desk.changing import Step
 from exam_desk.second_sitting import left_behind
 from exam_desk.mistakes import Mistake
+from exam_desk.workbook.headers import HEADER_WORDS
 from exam_desk.workbook.reading import workbook_of
 from exam_desk.workbook.values import Way
 from exam_web.desk import desk, view
@@ -25,7 +26,6 @@ MOST_CURED = 20_000  # of a file that one press of a button can mend
 MOST_VALUE = 400  # letters of a value that is typed
 MOST_LINES = 300  # of a workbook, on the page
 MOST_LISTED = 300  # rows that are withdrawn or reinstated one by one, while nobody else has the office
-CHOICES = ("withdraw", "reinstate")  # what else may become of entries
 WORKBOOK = "application/vnd.openxmlformats-officedocument.spreadsheetml.sheet"
 
 
@@ -39,58 +39,39 @@ class Looked(NamedTuple):
     moved: list[str]  # columns that are wrong in every row
     rows: int
     known: int  # rows that the office has
-    codes: int = 0  # candidates without an access code, here and in the office
-    asks: bool = False  # they may be a list of withdrawals or of reinstatements
-    is_over: bool = False  # these are sessions, and the day of each has passed
+    codes: int  # candidates without an access code, here and in the office
+    asks: bool  # they may be a list of withdrawals or of reinstatements
+    is_over: bool  # these are sessions, and the day of each has passed
 
 
 def looked_through(upload: Upload, alone: bool = False) -> dict[str, Looked]:
     """The files with their mistakes, each beside the office and the files before it; also beside the workbooks of which
     nothing is taken yet, if they are not to stand alone."""
     known = mistakes.Known(view().reading.rows)
-    had, asks = may_be_list(upload, known)
     for book in upload.workbooks if not alone else ():
         for kind, rows in book.rows.items():
             known.take(kind, rows)
-    looked = {kind: looked_at(kind, upload.texts[kind], known) for kind in upload.kinds}
-    if "candidates" in looked:
-        looked["candidates"] = looked["candidates"]._replace(codes=without_codes(upload))
-    if "entries" in looked:
-        looked["entries"] = looked["entries"]._replace(known=had, asks=asks)
-    return looked
+    return {kind: looked_at(kind, upload, known) for kind in upload.kinds}
 
 
-def looked_at(kind: str, content: bytes, known: mistakes.Known) -> Looked:
+def looked_at(kind: str, upload: Upload, known: mistakes.Known) -> Looked:
     """A file beside what is known, which has its rows, too, afterwards."""
-    wrong, notes = mistakes.looked_through(kind, content, known)
-    faults, rows = list(wrong)[:MOST_CURED], [*below_header(content)]
+    wrong, notes = mistakes.looked_through(kind, upload.texts[kind], known)
+    faults, rows = list(wrong)[:MOST_CURED], [*below_header(upload.texts[kind])]
     lines, today = {each.line for each in faults}, desk().office.today().isoformat().encode()
     days = [row.fields[1] for row in rows if kind == "sessions" and len(row.fields) == len(files.HEADERS[kind])]
     here = {tuple(map(str.encode, row)) for row in files.rows_of(view().reading.rows, kind)}
+    had = max(sum(row.fields in there for row in rows) for there in (here, known.withdrawn))
+    without = {mistakes.with_zeros(row.fields[0]) for row in rows if kind == "candidates" and row.fields[2:] == (b"",)}
     return Looked(
         faults, list(notes)[:MOST_SHOWN], total=wrong.count, cures=sum(each.write != "" for each in faults),
         fields={row.line: [part.decode("utf-8", "replace") for part in row.fields]
                 for row in rows if row.line in lines},
         moved=[column for column in files.HEADERS[kind] if wrong.counts[column] == len(rows) > 2],
-        rows=len(rows), known=sum(row.fields in here for row in rows),
+        rows=len(rows), known=had, codes=len(without - {row[0] for row in here}),
+        asks=kind == "entries" and rows != [] and (
+            upload.is_called_list or upload.kinds == ["entries"] and 2 * had >= len(rows)),
         is_over=days != [] and all(files.is_date(day) and day < today for day in days))
-
-
-def without_codes(upload: Upload) -> int:
-    """How many candidates have no access code, in the files and in the office."""
-    codes = facts.access_codes(view().reading.rows)
-    numbers = {mistakes.with_zeros(record.fields[0]) for record in below_header(upload.texts.get("candidates", b""))
-               if len(record.fields) == 3 and not record.fields[2]}
-    return sum(number.decode("utf-8", "replace") not in codes for number in numbers)
-
-
-def may_be_list(upload: Upload, known: mistakes.Known) -> tuple[int, bool]:
-    """How many rows of a file of entries the office has, as entries that count or as withdrawn ones; and whether it is
-    perhaps a list of withdrawals or of reinstatements: so it is called, or it comes alone, and these are half of its
-    rows or more."""
-    rows = [record.fields for record in below_header(upload.texts.get("entries", b""))]
-    had = max(sum(row in entries for row in rows) for entries in (known.entries, known.withdrawn))
-    return had, bool(rows) and (upload.is_called_list or upload.kinds == ["entries"] and 2 * had >= len(rows))
 
 
 Corrections = dict[int, dict[int, str]]  # by line and place; an empty dict takes the row out
@@ -101,19 +82,18 @@ def corrections(kind: str, looked: Looked, form: Mapping[str, str]) -> Correctio
     wanted: Corrections = {}
     for each in looked.faults:
         name = f"{kind}:{each.line}:{each.column}"
-        if each.column not in files.HEADERS[kind]:
-            if each.column == "row" and form.get(name) == "drop":
-                wanted[each.line] = {}
-            continue
-        place = files.HEADERS[kind].index(each.column)
-        if "all" in form and each.write:
-            wanted.setdefault(each.line, {})[place] = each.write
-        elif "all" not in form and name in form and form[name] != looked.fields[each.line][place]:
-            wanted.setdefault(each.line, {})[place] = form[name][:MOST_VALUE]
+        if each.column == "row" and form.get(name) == "drop":
+            wanted[each.line] = {}
+        elif each.column in files.HEADERS[kind]:
+            place = files.HEADERS[kind].index(each.column)
+            had = looked.fields[each.line][place]
+            if (value := each.write or had if "all" in form else form.get(name, had)) != had:
+                wanted.setdefault(each.line, {})[place] = value[:MOST_VALUE]
     return wanted
 
 
 def corrected(kind: str, content: bytes, wanted: Corrections) -> bytes:
+    """The file with the corrections; every other value keeps its bytes."""
     rows = [files.HEADERS[kind]]
     for record in below_header(content):
         fields = [part.decode("utf-8", "surrogateescape") for part in record.fields]
@@ -133,26 +113,36 @@ def page() -> str:
 
 @pages.post("/files")
 def upload() -> Response:
+    """Takes what is brought. Entries alone may be a list: their numbers get zeros as `office withdraw --list` gives."""
     found = taken(request.files.getlist("files"), way_of(request.form))
     if not (found.texts or found.notes or found.workbooks):
         return lead("files.page", text("Choose the files first."), "bad")
+    rows = [*below_header(found.texts["entries"])] if found.kinds == ["entries"] else []
+    zeros = {row.line: {0: number.decode()} for row in rows
+             if (number := mistakes.with_zeros(row.fields[0])) != row.fields[0]}
+    if zeros and rows[-1].closed:
+        found.texts["entries"] = corrected("entries", found.texts["entries"], zeros)
+        found.notes.append(many(len(zeros), "{count} number got the zeros in front that were missing.",
+                                "{count} numbers got the zeros in front that were missing."))
     return lead("files.look", key=keep(g.visit.uploads, MOST_UPLOADS, found))
 
 
 def way_of(form: Form) -> Way:
-    dates = form.get("dates", "")
-    return Way(dates, is_command=False) if dates in ("", "day-first", "month-first") else abort(400)
+    dates, hidden = form.get("dates", ""), form.get("hidden", "")
+    is_right = dates in ("", "day-first", "month-first") and hidden in ("", "take", "leave")
+    return Way(dates, is_command=False) if is_right else abort(400)
 
 
 @pages.get("/files/uploaded/<key>")
 def look(key: str) -> str:
+    """An upload with its mistakes; it can be imported where none is left that another file needs."""
     found: Upload = g.visit.uploads.get(key) or abort(404)
     looked = looked_through(found)
     of_books = sum(book.mistakes for book in found.workbooks)
     found.mistakes = sum(each.total for each in looked.values()) + of_books
     stands = not of_books or not any(each.total for each in looked_through(found, alone=True).values())
     return render_template("look.html", key=key, upload=found, looked=looked, stands=stands, headers=files.HEADERS,
-                           most=MOST_SHOWN, most_lines=MOST_LINES)
+                           words=HEADER_WORDS, most=MOST_SHOWN, most_lines=MOST_LINES)
 
 
 @pages.post("/files/uploaded/<key>/correct")
@@ -178,8 +168,6 @@ def again(key: str) -> Response:
     if place not in map(str, range(len(found.workbooks))) or found.is_imported:
         abort(404)
     way, hidden = way_of(request.form), request.form.get("hidden", "")
-    if hidden not in ("", "take", "leave"):
-        abort(400)
     book = found.workbooks.pop(int(place))
     found.texts = {kind: content for kind, content in found.texts.items() if kind not in book.kinds}
     wrong = [other for other in found.workbooks if other.mistakes]  # perhaps for what is read of this one now
@@ -205,15 +193,15 @@ def dump() -> Response:
 
 
 def import_files(form: Form) -> Plan:
+    """The imports of an upload in their order, as one change; or its entries withdrawn or reinstated one by one."""
     key = form.get("upload", "")
     upload: Upload = g.visit.uploads.get(key) or abort(404)
     if not upload.kinds:
         abort(404)
     page: Page = ("files.look", {"key": key})
-    choice = form.get("choice", "")
-    if choice in CHOICES:
+    if (choice := form.get("choice", "")) in ("withdraw", "reinstate"):
         return withdraw_list(upload, choice, page)
-    if not choice and may_be_list(upload, mistakes.Known(view().reading.rows))[1]:
+    if not choice and any(each.asks for each in looked_through(upload).values()):
         raise Wrong(page, choice=text("say what is to become of these entries"))
     texts = upload.texts | with_codes(upload, page, form)
     steps = [Step(("import", kind, f"{kind}.csv"), texts[kind]) for kind in upload.kinds]
@@ -255,10 +243,9 @@ def withdraw_list(upload: Upload, choice: str, page: Page) -> Plan:
     left = [text("line {line}, {row}, is left out: {why}", line=line, why=why,
                  row=b" ".join(fields).decode("utf-8", "replace"))
             for fields, line in lines.items() if fields not in fitting]
-    more = [text("and {count} more", count=len(left) - MOST_SHOWN)] if len(left) > MOST_SHOWN else []
+    left[MOST_SHOWN:] = [text("and {count} more", count=len(left) - MOST_SHOWN)] * (len(left) > MOST_SHOWN)
     return Plan({"kinds": "entries", "choice": choice, "count": str(len(steps))}, steps, page,
-                command=f"{choice} --list entries.csv", made_for=view().name,
-                look=lambda before, after: [*left[:MOST_SHOWN], *more],
+                command=f"{choice} --list entries.csv", made_for=view().name, look=lambda before, after: left,
                 done=partial(setattr, upload, "is_imported", True))
 
 

@@ -25,6 +25,9 @@ RIGHT_TO_LEFT = ("ar", "fa", "he", "ur")
 LANGUAGES: dict[str, dict[str, str]] = {
     path.stem: json.loads(path.read_text("utf-8"))
     for path in sorted((pathlib.Path(__file__).parent / "languages").glob("*.json"))}
+FORMED = {name: [(re.compile(re.sub(r"\\{\d\\}", "(.{1,200}?)", re.escape(english))), other)
+                 for english, other in table.items() if "{0}" in english]
+          for name, table in LANGUAGES.items()}  # sentences that come with their values in them
 
 
 def language() -> str:
@@ -44,7 +47,11 @@ def said(words: str | Said, pages: Mapping[str, str] = {}) -> Markup:
         return text(words.text, **{name: value_said(value, pages) for name, value in words.values.items()})
     if found := LANGUAGES.get(language(), {}).get(words):
         return Markup(found)
-    return Markup("<bdi>{}</bdi>").format(Markup("").join(map(command_said, COMMAND.split(plain(words)))))
+    for pattern, other in FORMED.get(language(), ()):
+        if parts := pattern.fullmatch(words):
+            return Markup(other).format(*(said(part) if " " in part else shown(part) for part in parts.groups()))
+    english = "" if language() == "en" else Markup(' lang="en"')  # for who hears it
+    return Markup("<bdi{}>{}</bdi>").format(english, Markup("").join(map(command_said, COMMAND.split(plain(words)))))
 
 
 def value_said(value: object, pages: Mapping[str, str]) -> Markup:

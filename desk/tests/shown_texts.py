@@ -7,6 +7,7 @@ neither, words in a template outside a call, and a sentence in a module outside 
 import ast
 import datetime
 import html.parser
+import itertools
 import json
 import pathlib
 import re
@@ -17,7 +18,7 @@ from jinja2 import nodes
 
 DESK = pathlib.Path(__file__).resolve().parent.parent
 sys.path.insert(0, str(DESK))
-from exam_desk import appeals, backups, keeping, losses, mistakes, refusals, second_sitting  # noqa: E402
+from exam_desk import appeals, backups, keeping, losses, mistakes, reasons, refusals, second_sitting, words  # noqa: E402
 from exam_desk.workbook import cells, opening  # noqa: E402
 from exam_web import application, desk, forms, proposals, session, wording  # noqa: E402
 
@@ -32,7 +33,32 @@ SAID = [*refusals.SENTENCES.values(), *refusals.OTHER.values(), *OTHERWISE]
 CURES = [cure.removesuffix(forms.SHEET_HINT) for cure in mistakes.CURES.values()]
 OPENED = [cells.PASSWORD, opening.NO_UTF_8, opening.NO_WORKBOOK, opening.OLD_FORM,  # why a file is not read
           backups.NO_OFFICE, backups.SEVERAL, backups.BROKEN, backups.TOO_LARGE]
-OWN = [proposals.OTHER_OFFICE, proposals.WRONG_DESK, proposals.COMPARING, proposals.LODGING]
+OF_COMMANDS = re.compile("header|column|first line|UTF-16|split it|^these are|file is empty|access code;|SELECT|NOTE|"
+                         "office (take|withdraw)|looked for|file fault|refused")  # no page shows these
+
+
+def sentences(module):
+    """The texts in the functions of a module: where values are put in, {0} and so on stand in their places."""
+    for function in ast.walk(ast.parse(pathlib.Path(module.__file__).read_text("utf-8"))):
+        if isinstance(function, ast.FunctionDef):
+            described = function.body[bool(ast.get_docstring(function)):]
+            parts = [part for each in described for part in ast.walk(each)]
+            within = {id(value) for part in parts if isinstance(part, ast.JoinedStr) for value in ast.walk(part)}
+            for part in parts:
+                if isinstance(part, ast.Constant) and isinstance(part.value, str) and id(part) not in within:
+                    yield part.value
+                elif isinstance(part, ast.JoinedStr):
+                    places = itertools.count()
+                    yield "".join(value.value if isinstance(value, ast.Constant) else "{%d}" % next(places)
+                                  for value in part.values)
+
+
+FORMED = [*mistakes.CURES.values(), mistakes.EMPTY_ROW, *(
+    each for module in (mistakes, refusals) for each in sentences(module)
+          if re.search(r"[a-z]{2,}\b.* |.* .*\b[a-z]{2,}", each) and not OF_COMMANDS.search(each))]
+REASONS = [*(f"no {name}" for name in words.FEATURES), reasons.CLOSES + "{0}", "barred by a granted appeal", "suits",
+           "but {0} of {1} desks are taken"]  # why a hall does not suit, parted at commas
+OWN = [*REASONS, proposals.OTHER_OFFICE, proposals.WRONG_DESK, proposals.COMPARING, proposals.LODGING]
 TABLES = {  # by what stands in the call
     "word": session.RUNNING.values(),
     "sheet.title": [sheet.title for sheet in session.SHEETS.values()],
@@ -154,7 +180,7 @@ def main():
     found.update(re.findall(r'\btext\("((?:[^"\\]|\\.)*)"', (DESK / "exam_web/wording.py").read_text("utf-8")))
     for table in TABLES.values():
         found.update(table)
-    found.update(SAID, OPENED, OWN, second_sitting.TEXTS, [losses.OTHERS, losses.NAMED, losses.UNKNOWN])
+    found.update(SAID, OPENED, FORMED, OWN, second_sitting.TEXTS, [losses.OTHERS, losses.NAMED, losses.UNKNOWN])
     print(json.dumps({"found": sorted(found), "lost": lost}))
 
 

@@ -205,7 +205,7 @@ class Words(unittest.TestCase):
             "semicolons part the columns: save it with commas",
             "the column code is missing: add it (leave it empty; `office take .. --codes` fills it)",
             "leading zeros lost? 0001000 (seven digits; format the column as text)", "1 to 80 bytes; it has 0",
-            "1 field in place of 3; values are missing"], []))
+            "1 in place of 3 fields; values are missing"], []))
         self.assertEqual(self.mistakes_in("candidates", b" Number,,name,code\n1000,,Ada,CODE0001\n"), ([
             "columns without a name: delete them",
             "leading zeros lost? 0001000 (seven digits; format the column as text)"], []))
@@ -214,11 +214,11 @@ class Words(unittest.TestCase):
 
     def test_rows_that_are_wrong_as_a_whole(self):
         for row, said in (
-                (b"0001000,Lin, Ada,WK3DEGZDPC", "4 fields in place of 3; put a value with a comma in double quotes"),
-                (b"0001000,Ada", "2 fields in place of 3; values are missing"),
+                (b"0001000,Lin, Ada,WK3DEGZDPC", "4 in place of 3 fields; put a value with a comma in double quotes"),
+                (b"0001000,Ada", "2 in place of 3 fields; values are missing"),
                 (b",,", "an empty row of the spreadsheet: delete it"),
-                (b",,,", "4 fields in place of 3; an empty row of the spreadsheet: delete it"),
-                (b'0001000,"Ada', "2 fields in place of 3; a quote is not closed")):
+                (b",,,", "4 in place of 3 fields; an empty row of the spreadsheet: delete it"),
+                (b'0001000,"Ada', "2 in place of 3 fields; a quote is not closed")):
             self.assertEqual(self.mistakes_in("candidates", b"number,name,code\n" + row), ([said], []), row)
 
     def test_dates_and_times_are_put_right(self):
@@ -272,8 +272,8 @@ class Words(unittest.TestCase):
         self.assertEqual(found, [])
         self.assertEqual(notes, [
             "looks like letters that were read in a wrong encoding",
-            "0000003 has the same access code and the same name: one candidate under two numbers?",
-            "0000002 has the same access code and the same name: one candidate under two numbers?",
+            "the same access code as 0000003, and the same name: one candidate under two numbers?",
+            "the same access code as 0000002, and the same name: one candidate under two numbers?",
             "the same as line 3; it counts once",
             "may be what a spreadsheet made of a code such as 1E5, or will make of it"])
 
@@ -285,15 +285,15 @@ class Words(unittest.TestCase):
         self.assertLess(time.process_time() - began, 10)
         first, second, *others = (note.text for note in notes)
         self.assertEqual((found.count, len(others), first, second, others[-1]), (
-            0, 19_998, "0000002, 0000003, 0000004 have the same access code",
-            "0000001, 0000003, 0000004 have the same access code",
-            "0000001, 0000002, 0000003 have the same access code"))
+            0, 19_998, "the same access code as 0000002, 0000003, 0000004",
+            "the same access code as 0000001, 0000003, 0000004",
+            "the same access code as 0000001, 0000002, 0000003"))
 
     def test_a_code_that_its_owner_gives_up_is_no_shared_one(self):
         known = mistakes.Known()
         known.take("candidates", [(b"0000001", b"Ada", b"CODE0001")])
         text = b"number,name,code\n0000002,Bo,CODE0001\n"
-        self.assertEqual(self.mistakes_in("candidates", text, known)[1], ["0000001 has the same access code"])
+        self.assertEqual(self.mistakes_in("candidates", text, known)[1], ["the same access code as 0000001"])
         text += b"0000001,Ada,CODE0009\n"
         self.assertEqual(self.mistakes_in("candidates", text, known), ([], []))
 
@@ -312,8 +312,8 @@ class Words(unittest.TestCase):
     def test_no_bytes_end_it_otherwise(self):
         same = b"number,name,code\n100\351,Ada,ABCDEFGH\n0000002,Ada,ABCDEFGH\n"
         self.assertEqual(self.mistakes_in("candidates", same), (["seven digits; format the column as text"], [
-            "0000002 has the same access code and the same name: one candidate under two numbers?",
-            "100\ufffd has the same access code and the same name: one candidate under two numbers?"]))
+            "the same access code as 0000002, and the same name: one candidate under two numbers?",
+            "the same access code as 100\ufffd, and the same name: one candidate under two numbers?"]))
         halls = b"session,hall,desks,until,reserved\n" + b"".join(b"\xff,H%d,1,12:00,no\n" % place for place in range(257))
         self.assertIn("257 open halls in session \ufffd; a session holds 256", self.mistakes_in("openings", halls)[0])
 

@@ -379,6 +379,48 @@ class TestFiles(Uploads):
         self.assertEqual(self.live(), before - {numbers[2]})
         self.assertIn("withdraw --list", self.office("back"))
 
+    def test_a_list_has_the_zeros_back_that_a_spreadsheet_took(self):
+        """So `office withdraw --list` takes it, too; entries beside other files have a cure each."""
+        numbers, _ = self.listed()
+        rows = "number,paper\n" + "".join(f"{int(number)},EN-1\n" for number in numbers)
+        page = self.upload(("leave.csv", rows.encode()), ("sessions.csv", b"session,date,start\n"))
+        self.assertIn("3 mistakes", self.browser.words(page))
+        page = self.upload(("leave.csv", rows.encode()))
+        words = self.browser.words(page)
+        self.assertIn("3 numbers got the zeros in front that were missing.", words)
+        self.assertIn("The office has all 3 entries already", words)
+        before = self.live()
+        self.carry_out(self.propose(page, choice="withdraw"))
+        self.assertEqual(self.live(), before - {*numbers})
+
+    def test_a_file_of_columns_says_what_headers_mean(self):
+        """Beside the workbook or in a zip with it; without one the page says which headers are read."""
+        export = ("pupils.csv", b"Pupil ID;Surname;Forename;Web code\n12001;Doe;Nadia;K4WBN7RTQD\n")
+        says = b'[candidates]\nnumber = "Pupil ID"\nname = ["Forename", "Surname"]\ncode = "Web code"\n'
+        words = self.browser.words(self.upload(export))
+        self.assertIn("MISTAKE", words)
+        self.assertRegex(words, "where a file columns.toml comes .* candidates number .*candidateno, ")
+        both = {"columns.toml": says, export[0]: export[1]}
+        for found in [*both.items()], [("all.zip", zipped(both))]:
+            page = self.upload(*found)
+            self.assertIn("No mistake", self.browser.words(page))
+            self.assertIn('"0012001","Nadia Doe","K4WBN7RTQD"', self.browser.ask("GET", page + "/candidates.csv")[1])
+        rooms = workbook({"Rooms here": [["Kürzel", "title", "features"], ["R20", "Room", "-"]]})
+        more = says + '[halls]\nsheet = "Rooms here"\nhall = "Kürzel"\n'.encode()
+        pupils = workbook({"Pupils": [["Pupil ID", "Forename", "Surname", "Web code"],
+                                      [12001, "Nadia", "Doe", "K4WBN7RTQD"]]})
+        page = self.upload(("r.xlsx", rooms), ("s.xlsx", pupils), ("columns.toml", more))
+        self.assertIn("No mistake", self.browser.words(page))  # each says of its own workbook alone
+        self.assertIn('"R20","Room","-"', self.browser.ask("GET", page + "/halls.csv")[1])
+        for wrong, said in ((b"[pupils]\n", "pupils is none of the seven kinds"), (b"x = " + b"[" * 9999, "recursion"),
+                            (b"\xff", "its letters are no UTF-8: save it as UTF-8")):
+            words = self.browser.words(self.upload(export, ("columns.toml", wrong)))
+            self.assertIn(said, words)
+            self.assertIn("MISTAKE", words)
+        words = self.browser.words(self.upload(("a.toml", says), ("b.toml", b"x"), export))
+        self.assertIn("b.toml : another file says already what headers mean", words)
+        self.assertIn("No mistake", words)
+
     def test_what_the_office_has_by_half_is_never_imported_unasked(self):
         """A list of leavers in which some rows are wrong, or late, is no list of new entries for that."""
         numbers, _ = self.listed()

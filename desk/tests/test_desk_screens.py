@@ -156,6 +156,7 @@ class TestNewCandidate(DeskSchool):
         self.assertIn("candidates 1 0 0 entries 2 0 0", words)
         self.assertEqual(self.rows("SELECT * FROM candidate WHERE number = 9001"), [])
         self.browser.post(page + "/do", page)
+        self.browser.get(page)  # which waits until it is done
         self.assertEqual(self.rows("SELECT paper FROM entry WHERE number = 9001 ORDER BY 1"), [("EN-1",), ("LAT",)])
 
     def test_a_paper_that_is_not_there_and_the_ticks_stay(self):
@@ -241,6 +242,32 @@ class TestSearch(DeskSchool):
         self.assertEqual(set(many), {number for number in names if number % 10 == 1})
         last = [names[number].split()[-1].replace("Å", "A") for number in many]
         self.assertEqual(last, sorted(last))
+
+
+class TestHearing(DeskSchool):
+    """What who hears a page needs: each table has a name; the title, and the field, say that something is wrong."""
+
+    def test_each_table_has_a_name(self):
+        self.office("lodge", "0001119", "MON-AM", "arrangement", "-", "25", "")
+        self.office("printed", "MON-AM")
+        page, _ = self.browser.post("/propose/withdraw", "/candidates/1051", number="0001051", paper="CS-1")
+        self.browser.post(page + "/do", page)
+        for path in ("/sessions/MON-AM", "/sessions/MON-AM/printed", "/sessions/MON-AM/halls/PC1", "/candidates/1051",
+                     "/appeals", "/clashes", "/files", "/office", page):
+            text = self.browser.get(path)
+            tables = re.findall("<table([^>]*)>(<caption)?", text)
+            self.assertTrue(tables, path)
+            for head, caption in tables:
+                name = re.search('aria-labelledby="([^"]+)"', head)
+                self.assertEqual(text.count(f'id="{name[1]}"') if name else bool(caption), 1, (path, head))
+
+    def test_what_is_wrong_is_in_the_title_and_at_the_field(self):
+        self.assertIn("<title>Ada Lin · ", self.browser.get("/candidates/1000"))
+        _, text = self.browser.post("/propose/lodge", "/candidates/1000", 422, number="0001000", session="MON-AM")
+        self.assertIn("<title>Not done: Ada Lin · ", text)
+        self.assertIn('<a href="#fault-lodge-kind">', text)
+        self.assertRegex(text, 'name="kind" value="hall" [^>]*aria-invalid="true" aria-describedby="fault-lodge-kind"')
+        self.assertEqual(text.count('id="fault-lodge-kind"'), 1)
 
 
 HELP = r'<a href="([^"]+/handbook)#([^"]+)">([^<]+)</a>'

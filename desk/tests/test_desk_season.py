@@ -195,6 +195,20 @@ class TestClashes(SmallSchool):
         self.office("lodge", "0000001", "S1", "clash", "SHORT", "")
         self.assertNotIn("two papers at once and no appeal", self.browser.words("/"))
 
+    def test_who_was_refused_stands_there_again(self):
+        """Until another appeal is open; a grant settles it, a retracted one is none."""
+        self.begin("A,Hall A,-\n", "S1,A,5,18:00,no\n", "0000001,SHORT\n0000001,LONG\n0000002,SHORT\n0000002,LONG\n")
+        refs = [self.office("lodge", f"000000{last}", "S1", "clash", "SHORT", "").split()[1] for last in "12"]
+        self.assertNotIn("two papers at once", self.browser.words("/"))
+        self.office("decide", "0000001", refs[0], "refused", "no")
+        text = self.browser.get("/")
+        self.assertIn("<bdi>1</bdi> candidate with two papers at once in <bdi>S1</bdi>: the appeal was refused", text)
+        self.assertIn(f'href="{self.browser.prefix}/clashes?session=S1"', text)
+        self.office("decide", "0000002", refs[1], "granted", "")
+        self.assertNotIn("no appeal in", self.browser.words("/"))
+        self.office("lodge", "0000001", "S1", "clash", "SHORT", "again")
+        self.assertNotIn("two papers at once", self.browser.words("/"))
+
 
 if __name__ == "__main__":
     unittest.main()

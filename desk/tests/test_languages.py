@@ -9,6 +9,13 @@ import unittest
 from desk_client import HAS_FLASK, PYTHON, DeskSchool
 from sample import DESK
 
+SAY = """
+import flask, sys
+sys.path.insert(0, sys.argv[1])
+from exam_web import wording
+with flask.Flask("x").test_request_context(headers={"Accept-Language": "de"}):
+    print(*map(wording.said, sys.argv[2:]), sep="\\n")
+"""
 FINDER = pathlib.Path(__file__).parent / "shown_texts.py"
 
 
@@ -27,6 +34,16 @@ class TestTexts(unittest.TestCase):
             for english, other in table.items():
                 self.assertEqual(sorted(re.findall(r"{\w+}", english)), sorted(re.findall(r"{\w+}", other)), english)
                 self.assertNotRegex(other, "[<>&]")
+
+
+    def test_a_sentence_that_has_its_values_is_known_again(self):
+        """A value of one word stays as it is, since somebody may have to write it: `no` is no "nein" there."""
+        said = ["write no (yes or no)", "no papers are known, so these are not compared",
+                "2 in place of 3 fields; values are missing", "write <b>no (yes or no)", "nothing of it"]
+        done = subprocess.run([PYTHON, "-B", "-c", SAY, DESK, *said], capture_output=True, text=True, check=True)
+        self.assertEqual(re.sub("</?bdi>", "", done.stdout).splitlines(), [
+            "no schreiben (yes oder no)", "papers: keine bekannt, also wird das nicht verglichen",
+            "2 statt 3 Felder; es fehlen Werte", "&lt;b&gt;no schreiben (yes oder no)", '<bdi lang="en">nothing of it'])
 
 
 class TestGerman(DeskSchool):

@@ -58,8 +58,8 @@ class Words(sample.SampleSchool):
                          ["file fault", f"  it was looked for as {os.path.join(self.folder, 'none.csv')}"])
 
     def test_what_is_wrong_with_a_row(self):
-        for row, text in [("0001000,A,B,WK3DEGZDPC", "4 fields in place of 3; put a value with a comma in double quotes"),
-                          ('0001000,"A,WK3DEGZDPC', "2 fields in place of 3; a quote is not closed")]:
+        for row, text in [("0001000,A,B,WK3DEGZDPC", "4 in place of 3 fields; put a value with a comma in double quotes"),
+                          ('0001000,"A,WK3DEGZDPC', "2 in place of 3 fields; a quote is not closed")]:
             path = self.write("candidates.csv", f"number,name,code\n{row}\n")
             lines = self.refused("import", "candidates", path).split("\n")
             self.assertIn(f"  candidates.csv line 2: row: {text}", lines)

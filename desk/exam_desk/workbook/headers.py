@@ -134,12 +134,11 @@ def find_header(kind: str, sheet: Sheet, given: Given, whole: bool = False) -> H
 
 # -- the file of columns
 
-def read_columns(path: str) -> tuple[dict[str, Given], Way]:
-    """What a file of columns says; raises `Trouble` where it says something else."""
+def read_columns(path: str, content: bytes | None = None) -> tuple[dict[str, Given], Way]:
+    """What a file of columns says, or these bytes of one; raises `Trouble` where it says something else."""
     import tomllib
     try:
-        with open(path, encoding="utf-8-sig", newline="") as file:
-            found = tomllib.loads(file.read())
+        found = tomllib.loads((files.read(path) if content is None else content).decode("utf-8-sig"))
         words, dates = found.pop("words", {}), found.pop("dates", "")
         given = {kind: given_of(kind, said) for kind, said in found.items()}
         taught = words_of(words)
@@ -147,7 +146,7 @@ def read_columns(path: str) -> tuple[dict[str, Given], Way]:
             raise Trouble("dates is day-first or month-first")
     except UnicodeDecodeError as fault:
         raise Trouble("its letters are no UTF-8: save it as UTF-8", path) from fault
-    except (tomllib.TOMLDecodeError, Trouble) as fault:
+    except (tomllib.TOMLDecodeError, RecursionError, Trouble) as fault:
         raise Trouble(str(fault), path) from fault
     return given, Way(dates, taught)
 

@@ -188,8 +188,9 @@ class Headed:
             names = ", ".join(self.marks.values())
             self.note(row, min(self.marks), f"crosses below {names} are read as {MARKED.get(self.kind, 'entries')}")
         for name, places in self.header.twice.items():
-            columns, options = ", ".join(map(letters_of, places)), self.job.way.or_say("which in a file of columns")
-            self.mistake(row, places[1], f"columns {columns} could all be {name}: keep one header{options}")
+            columns = ", ".join(map(letters_of, places))
+            self.mistake(row, places[1], f"columns {columns} could all be {name}: keep one header, or say which in a "
+                         "file of columns")
         self.tell_names()
         self.tell_lacking()
         self.tell_columns()

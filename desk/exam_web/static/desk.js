@@ -32,8 +32,8 @@ function ready() {
 }
 addEventListener("pageshow", ready);
 
-// after a refusal: to the field that caused it
-document.querySelector("[aria-invalid]")?.focus();
+// after a refusal: to the field that caused it, or to the line that says it
+(document.querySelector("[aria-invalid]") ?? document.querySelector("a[href^='#fault-']"))?.focus();
 
 // a piece of a page that is made when it is asked for: a hall, what a grant would come to
 async function load(place) {
@@ -70,7 +70,7 @@ if (halls.length && halls.length <= 12 && ![...halls].some((each) => each.open))
 // files: chosen or dropped, a folder too
 const drop = document.getElementById("drop");
 if (drop) {
-  const wanted = /\.(csv|zip|xlsx|xlsm|ods)$/i;
+  const wanted = /\.(csv|zip|xlsx|xlsm|ods|toml)$/i;
   const tables = (found) => {  // a folder has other files, too
     const some = found.filter((file) => wanted.test(file.name));
     return some.length ? some : found.slice(0, 10);
@@ -80,8 +80,8 @@ if (drop) {
     form.delete("files");
     for (const file of found) form.append("files", file, file.name);
     const line = drop.querySelector(".big");
+    line.setAttribute("role", "status");  // first, so that what it says is announced
     line.textContent = drop.dataset.working;
-    line.setAttribute("role", "status");
     try {
       const answer = await fetch(drop.action, {method: "POST", body: form, credentials: "same-origin"});
       if (answer.redirected) location.href = answer.url;
