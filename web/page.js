@@ -10,7 +10,8 @@ import { dayText, fill, Titles } from "./wording.js";
 const titles = new Titles();
 let candidate = null; // who is logged in
 let own = new Own(titles);
-let busy = false;
+let current = null; // the step that is being done
+let next = null; // what was pressed meanwhile, and is done after it
 let retracting = null; // the appeal that the dialog asks about
 
 let entering = null; // who is being asked for, before they are logged in
@@ -42,18 +43,25 @@ function clearNotices() {
   for (const field of document.querySelectorAll("[aria-invalid]")) field.removeAttribute("aria-invalid");
 }
 
-/** Does one step at a time, and says what went wrong. */
+/** Does one step at a time, and says what went wrong. What is pressed meanwhile waits, and the page says so. */
 async function step(work) {
-  if (busy) return;
+  if (current) {
+    if (work !== current && work !== lookAgain) {
+      next = work;
+      byId("alert").textContent = TEXTS.waitsForAnswer;
+    }
+    return;
+  }
   const asking = candidate;
-  setBusy(true);
+  setCurrent(work);
   clearNotices();
   try {
     await work();
   } catch (fault) {
     if (!(asking ?? entering)?.left) await told(fault);
   } finally {
-    setBusy(false);
+    setCurrent(null);
+    if (next) step(next);
   }
 }
 
@@ -68,10 +76,11 @@ async function told(fault) {
 }
 
 /** Marks the answers as about to change, but not the notices: a screen reader would keep them back. */
-function setBusy(on) {
-  busy = on;
-  document.body.classList.toggle("busy", on);
-  byId("main").setAttribute("aria-busy", String(on));
+function setCurrent(work) {
+  current = work;
+  if (work) next = null;
+  document.body.classList.toggle("busy", work !== null);
+  byId("main").setAttribute("aria-busy", String(work !== null));
 }
 
 function tell(fault) {
@@ -153,9 +162,9 @@ async function lookAgain() {
   say(fill(TEXTS.loaded, { exams: own.seats.length, appeals: own.appeals.length }));
 }
 
-function logOut(said = busy ? TEXTS.loggedOutBusy : TEXTS.loggedOut) {
+function logOut(said = current ? TEXTS.loggedOutBusy : TEXTS.loggedOut) {
   candidate?.leave();
-  candidate = null;
+  candidate = next = null;
   own = new Own(titles);
   show();
   lodging.clear(own);
@@ -206,7 +215,6 @@ async function lodged(body, tries) {
 }
 
 function askRetract(appeal) {
-  if (busy) return;
   retracting = appeal;
   const values = { about: own.aboutText(appeal), session: own.sessionText(appeal.session) };
   byId("retract-ask").textContent = fill(TEXTS.retractAsk, values);
