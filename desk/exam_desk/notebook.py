@@ -129,8 +129,8 @@ def absences(reading: Reading, session: str) -> Absences | None:
     noted = absent(reading.office, session)
     if noted is None:
         return None
-    known = filter(reading.knows, sorted(noted))  # a copy from before somebody came may have been put back
-    members = reading.members(session, known)
+    known = facts.candidate_names(reading.rows).keys()  # a copy from before somebody came may have been put back
+    members = reading.members(session, sorted(noted & known))
     return Absences(members, sorted(noted.difference(member.number for member in members)))
 
 
