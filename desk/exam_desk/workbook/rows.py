@@ -84,8 +84,8 @@ class Table(Headed):
                 self.mistake(row, place, text, "mixed")
 
     def filled_cells(self) -> dict[tuple[int, int], Cell]:
-        """What the cells that are merged downwards say for the rows below their first. A value below a merged cell is one
-        that nobody sees."""
+        """What the cells that are merged downwards say for the rows below their first. A value below a merged cell is
+        one that nobody sees."""
         filled: dict[tuple[int, int], Cell] = {}
         names = {place: name for name, places in self.header.columns.items() for place in places} | self.marks
         rows, end, covered = self.sheet.rows, max(self.sheet.rows), 0

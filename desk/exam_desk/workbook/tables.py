@@ -252,8 +252,8 @@ class Headed:
         if self.kind in MARKED and place in self.crossed and place in crosses and self.marked in self.header.columns:
             return f"{self.crossed[place]} has crosses beside the column {self.marked}: keep one of the two"
         if self.kind in MARKED and place in crosses and folded(said) in NEAR:
-            return f"{said!r} has crosses and is no feature: call it {NEAR[folded(said)]} if that is meant, or delete " \
-                "the column"
+            return f"{said!r} has crosses and is no feature: call it {NEAR[folded(said)]} if that is meant, or " \
+                "delete the column"
         gone = self.first_places(lambda cell: mark_of(cell) != "no" if is_called_list(said) else
                                  is_called_list(cell.text)) if self.kind == "entries" else {}
         if row := gone.get(place):
