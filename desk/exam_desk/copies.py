@@ -114,7 +114,8 @@ def folders(office: Office, place: str, form: re.Pattern[str]) -> list[str]:
 def parts(copy: str) -> re.Match[str]:
     """The name of a copy: its running number, day, time and command."""
     found = NAME.fullmatch(os.path.basename(copy))
-    assert found  # nothing with another name is listed
+    if found is None:
+        raise Trouble("is no copy of an office", copy)
     return found
 
 

@@ -158,9 +158,9 @@ def cure(column: str, field: bytes) -> Cure:
 
 def no_codes(count: int, kept: int = 0) -> str:
     """What is said once of all candidates without an access code, of whom the office has so many with one."""
-    verb, others = "has" if count == 1 else "have", ", and with --codes makes the others" * (kept < count)
-    way = f"`office take ..` fills in {kept} from the office{others}" if kept else "`office take .. --codes` makes them"
-    return f"{lists.count(count, 'candidate')} {verb} no access code; {way}"
+    way = f"`office take ..` fills in {kept} from the office" if kept else "`office take .. --codes` makes them"
+    others = f"{way}, and `office take .. --codes` makes the others" if 0 < kept < count else way
+    return f"{lists.count(count, 'candidate')} {'has' if count == 1 else 'have'} no access code; {others}"
 
 
 def with_zeros(field: bytes) -> bytes:
