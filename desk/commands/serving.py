@@ -88,7 +88,7 @@ def keep(parser: ArgumentParser) -> bool:
     where = os.path.dirname(given.place) or given.place
     status = (keeping.status(office) if given.what == "status" else
               keeping.start(office, [sys.executable, command.OFFICE, "keep", "run", where, "--days", str(given.days)]))
-    command.say_lines([str(status.sentence)])
+    print(status.sentence)
     return not status.serves
 
 

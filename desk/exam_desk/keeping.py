@@ -32,7 +32,7 @@ from typing import NamedTuple
 from exam_desk import asking, beside, copies, hold, refusals, running, turns
 from exam_desk.office import Office
 from exam_desk.trouble import Trouble
-from exam_desk.words import Said, plain
+from exam_desk.words import plain
 
 JOURNAL = "keep.log"  # beside the office
 SOCKET = "keep.socket"  # in the folder that `keep` is given
@@ -47,13 +47,12 @@ COPY_PAUSE = 300  # seconds from a copy of the day that could not be kept to the
 START_SECONDS, STOP_SECONDS, QUESTION_SECONDS = 60, 20, 5  # that who begins `keep`, ends it or asks it waits at most
 QUESTION = b"GET / HTTP/1.0\r\n\r\n"  # `serve` answers it by 404
 RUNS = "`keep` serves this office already; `office keep status` says where"
-SERVES = "serving {place}, for {day}, process {process}"
 
 
 class Status(NamedTuple):
     """Whether `keep` serves, and what is to be said of it."""
     serves: bool
-    sentence: str | Said
+    sentence: str
 
 
 def say(text: object) -> None:
@@ -211,17 +210,18 @@ def listener(place: str) -> Iterator[socket.socket]:
                 os.chmod(place, 0o660)
             listening.listen(BACKLOG)
         except OSError as fault:
-            why = in_use(place) if fault.errno == errno.EADDRINUSE and place.isdigit() else fault.strerror or fault
-            raise Trouble(f"{asking.shown(place)} cannot be had: {why}") from fault
+            is_used = fault.errno == errno.EADDRINUSE and place.isdigit()
+            what = in_use(place) if is_used else asking.shown(place)
+            raise Trouble(f"{what} cannot be had: {fault.strerror or fault}") from fault
         yield listening
 
 
 def in_use(port: str) -> str:
-    """Who has a port, as far as the system shows it, and which other one is free."""
-    by = [f"process {name.parent.name} ({name.read_text('utf-8', 'replace').strip()})"
+    """A port that is in use, with who has it, as far as the system shows it, and another one that is free."""
+    by = [f"process {name.parent.name}, {name.read_text('utf-8', 'replace').strip()}"
           for name in pathlib.Path("/proc").glob("[0-9]*/comm")
           if asking.listens(asking.Server(int(name.parent.name), port))]
-    return f"{', '.join(by) or 'another process'} has this port; `office keep start {asking.free_port()}` takes another"
+    return f"{asking.shown(port)} ({'; '.join([*by, str(asking.free_port())])} is free)"
 
 
 def make_room(path: str) -> None:
@@ -306,7 +306,7 @@ def status(office: Office) -> Status:
         with contextlib.suppress(OSError):
             answered = asking.status_of(asking.answer(asking.Server(process, place), QUESTION, QUESTION_SECONDS))
         if answered == 404:
-            return Status(True, Said(SERVES, {"place": asking.shown(place), "day": state["day"], "process": process}))
+            return Status(True, f"serving {plain(asking.shown(place))}, for {state['day']}, process {process}")
         what = (f"no answer came within {QUESTION_SECONDS} seconds; it begins anew by itself" if not answered else
                 "it has more clients than it takes at once, or no memory")
     return Status(False, f"process {process} does not serve now: {what}")

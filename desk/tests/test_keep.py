@@ -160,8 +160,8 @@ class Ports(sample.SampleSchool):
         with socket.create_server(("127.0.0.1", 0)) as other:
             port = other.getsockname()[1]
             self.assertRegex(self.refused("keep", "start", str(port)),
-                             rf"127.0.0.1 {port} cannot be had: process {os.getpid()} \(\S+\) has this port; "
-                             r"`office keep start \d+` takes another\n$")
+                             rf": 127.0.0.1 {port} \(process {os.getpid()}, \S+; \d+ is free\) cannot be had: Address "
+                             "already in use\n$")
 
 
 class NewDay(sample.SampleSchool):
