@@ -210,8 +210,8 @@ def listener(place: str) -> Iterator[socket.socket]:
                 os.chmod(place, 0o660)
             listening.listen(BACKLOG)
         except OSError as fault:
-            is_used = fault.errno == errno.EADDRINUSE and place.isdigit()
-            what = in_use(place) if is_used else asking.shown(place)
+            is_port_used = fault.errno == errno.EADDRINUSE and place.isdigit()
+            what = in_use(place) if is_port_used else asking.shown(place)
             raise Trouble(f"{what} cannot be had: {fault.strerror or fault}") from fault
         yield listening
 
