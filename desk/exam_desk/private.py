@@ -39,7 +39,7 @@ def private_copy(path: str, office: str) -> Iterator[str]:
 
 @contextlib.contextmanager
 def filled(office: str, fill: Callable[[str], object]) -> Iterator[str]:
-    """A private folder beside an office with what `fill` puts there; in TMPDIR without one, or without leave or room."""
+    """A private folder beside an office with what `fill` puts there; in TMPDIR without one, or where it has no room."""
     with contextlib.ExitStack() as stack:
         try:
             place = beside.make_folder(office, PLACE) if os.path.isfile(office) else tempfile.gettempdir()
