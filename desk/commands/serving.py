@@ -74,9 +74,8 @@ def keep(parser: ArgumentParser) -> bool:
     given = parser.parse_args()
     if given.days < 1:
         parser.error("DAYS is 1 or more")
-    office = command.office()
-    if turns.keep_state(office) is None:  # one whose file is gone may be served still
-        office = command.existing_office()
+    # one whose file is gone may be served still
+    office = command.office() if turns.keep_state(command.office()) else command.existing_office()
     beside.refuse_stranger(office.path)
     beside.refuse_strange(beside.folder(office.path))
     if given.what == "run":
@@ -97,10 +96,8 @@ def place_of(given: str) -> str:
     """A port, or the path of the socket in a folder."""
     from argparse import ArgumentTypeError
     from exam_desk import keeping
-    if given.isascii() and given.isdigit():
-        if not 1 <= int(given) <= 65535:
-            raise ArgumentTypeError("a port is 1 to 65535")
+    if given.isascii() and given.isdigit() and 1 <= int(given) <= 65535:
         return str(int(given))
     if not os.path.isdir(given):
-        raise ArgumentTypeError(f"{given} is neither a port nor a folder")
+        raise ArgumentTypeError(f"{given} is neither a port, 1 to 65535, nor a folder")
     return os.path.join(os.path.abspath(given), keeping.SOCKET)

@@ -3,6 +3,7 @@ files would do is tried by the program on a private copy of the office, or on an
 import contextlib
 import os
 import sqlite3
+import tempfile
 from collections import Counter
 from collections.abc import Iterator, Mapping
 from dataclasses import replace
@@ -77,7 +78,7 @@ def would_do(office: Office, texts: Mapping[str, bytes], tell: Tell, progress: P
     try:
         with contextlib.ExitStack() as stack:
             if not os.path.exists(office.path):
-                folder = stack.enter_context(private.own_folder(office.path))
+                folder = stack.enter_context(private.private_folder(tempfile.gettempdir()))
                 office = replace(office, path=os.path.join(folder, office.base_name()))
                 running.run_over(office, office.path, "init")
             rehearsal = stack.enter_context(changing.rehearse(office, steps, tell))

@@ -14,6 +14,7 @@ from __future__ import annotations
 import asyncio
 import contextlib
 import datetime
+import errno
 import fcntl
 import json
 import math
@@ -21,7 +22,6 @@ import os
 import pathlib
 import signal
 import socket
-import stat
 import subprocess
 import sys
 import time
@@ -57,8 +57,7 @@ class Status(NamedTuple):
 
 def say(text: object) -> None:
     """Writes a line, unless the file that takes it is full: whoever makes faults all day must not fill the disk."""
-    found = os.fstat(sys.stderr.fileno())
-    if stat.S_ISREG(found.st_mode) and found.st_size > MOST_LOG:
+    if os.fstat(sys.stderr.fileno()).st_size > MOST_LOG:  # what is no file has no size
         return
     line = f"{datetime.datetime.now().isoformat(' ', 'seconds')} {plain(text)}\n"
     with contextlib.suppress(OSError):  # a full disk is no reason to end
@@ -72,6 +71,7 @@ class Keep:
         self.office, self.place, self.days, self.lock = office, place, days, lock
         self.hold = hold.Hold()
         self.ending = False
+        self.day = office.today()  # for which it serves
         self.copy_again = math.inf  # when the copy of the day is to be tried again
 
     def show(self, state: str = "aside", **more: object) -> None:
@@ -131,18 +131,20 @@ class Keep:
         missing midnight or a set clock does no harm."""
         self.hold.over.clear()  # a command wants the office only while it holds want.lock
         self.hold.fault = ""
-        day = self.office.today()
-        self.keep_day(day)
+        if (day := self.office.today()) != self.day:
+            say(f"the day is {day} now" + (f": the clock went back from {self.day}" if day < self.day else ""))
+            self.day = day
+        self.keep_day()
         with running.begun(self.office, self.office.path, port := asking.free_port()) as process:
             ended = asyncio.create_task(asyncio.to_thread(last_complaint, process))
             ended.add_done_callback(lambda _: self.hold.over.set())
-            opening = asyncio.create_task(self.open(process, asking.Server(process.pid, str(port)), day, turn))
+            opening = asyncio.create_task(self.open(process, asking.Server(process.pid, str(port)), turn))
             fault = "serve cannot be watched"
             try:
                 want.close()
                 while not self.hold.over.is_set() and self.office.today() == day:
                     if time.monotonic() > self.copy_again:
-                        await asyncio.to_thread(self.keep_day, day)
+                        await asyncio.to_thread(self.keep_day)
                     with contextlib.suppress(TimeoutError):
                         await asyncio.wait_for(self.hold.over.wait(), DAY_PAUSE)
                     if opening.done():
@@ -156,14 +158,13 @@ class Keep:
                 last = await ended
         return ": ".join(filter(None, [fault, last])) if fault else ""
 
-    async def open(self, process: subprocess.Popen[bytes], server: asking.Server, day: datetime.date,
-                   turn: FileIO) -> None:
+    async def open(self, process: subprocess.Popen[bytes], server: asking.Server, turn: FileIO) -> None:
         """Hands requests on once `serve` has said that it serves."""
         assert process.stdout
         if (await asyncio.to_thread(process.stdout.readline)).startswith(b"serving"):  # else it ends
             if asking.listens(server):
                 self.hold.open(server)
-                self.show("serving", serve=process.pid, day=day.isoformat())
+                self.show("serving", serve=process.pid, day=self.day.isoformat())
             else:
                 self.hold.give_up(f"/proc does not show that serve has port {server.place}")
         waited, until = self.hold.asked, time.monotonic() + TURN_SECONDS
@@ -171,11 +172,11 @@ class Keep:
             await asyncio.sleep(turns.PAUSE)
         turn.close()
 
-    def keep_day(self, day: datetime.date) -> None:
+    def keep_day(self) -> None:
         """Keeps a copy of the office at each new day, and the last of them; where that fails, it is tried again."""
         self.copy_again = math.inf
         try:
-            if path := copies.keep_day(self.office, day, self.days):
+            if path := copies.keep_day(self.office, self.day, self.days):
                 say(f"copy of the day in {path}")
         except (OSError, Trouble) as fault:
             say(f"no copy of the day: {fault.strerror if isinstance(fault, OSError) and fault.strerror else fault}")
@@ -209,8 +210,18 @@ def listener(place: str) -> Iterator[socket.socket]:
                 os.chmod(place, 0o660)
             listening.listen(BACKLOG)
         except OSError as fault:
-            raise Trouble(f"{asking.shown(place)} cannot be had: {fault.strerror or fault}") from fault
+            is_port_used = fault.errno == errno.EADDRINUSE and place.isdigit()
+            what = in_use(place) if is_port_used else asking.shown(place)
+            raise Trouble(f"{what} cannot be had: {fault.strerror or fault}") from fault
         yield listening
+
+
+def in_use(port: str) -> str:
+    """A port that is in use, with who has it, as far as the system shows it, and another one that is free."""
+    by = [f"process {name.parent.name}, {name.read_text('utf-8', 'replace').strip()}"
+          for name in pathlib.Path("/proc").glob("[0-9]*/comm")
+          if asking.listens(asking.Server(int(name.parent.name), port))]
+    return f"{asking.shown(port)} ({'; '.join([*by, str(asking.free_port())])} is free)"
 
 
 def make_room(path: str) -> None:
@@ -228,13 +239,13 @@ def make_room(path: str) -> None:
 
 def run(office: Office, place: str, days: int) -> None:
     """Serves until a signal ends it. Raises `Trouble` where another `keep` serves the office."""
-    office.today()  # a day that is none is said before anything begins
     signal.signal(signal.SIGUSR1, signal.SIG_IGN)  # a command that comes before the handler need not step it aside
     with turns.lock_file(office, "keep.lock") as lock:
         if not turns.try_lock(lock, lock=fcntl.lockf):
             raise Trouble(RUNS)
         turns.note(lock, "")  # of the one before, which may have been killed
         asyncio.run(Keep(office, place, days, lock).run())
+        turns.note(lock, "")  # what stays there was said by one that was killed
 
 
 def start(office: Office, line: Sequence[str]) -> Status:
@@ -244,14 +255,11 @@ def start(office: Office, line: Sequence[str]) -> Status:
     path = os.path.join(beside.make_folder(office.path), JOURNAL)
     if os.path.exists(path) and os.path.getsize(path) > MOST_LOG // 2:
         os.replace(path, path + ".old")
-    flags = os.O_WRONLY | os.O_CREAT | os.O_APPEND
-    with open(beside.open_file(office.path, JOURNAL, flags=flags), "wb") as log:
+    with open(beside.open_file(office.path, JOURNAL, flags=os.O_WRONLY | os.O_CREAT | os.O_APPEND), "wb") as log:
         process = subprocess.Popen(line, stdin=subprocess.DEVNULL, stdout=log, stderr=log, start_new_session=True)
     until = time.monotonic() + START_SECONDS
-    while time.monotonic() < until and process.poll() is None:
-        state = turns.keep_state(office)
-        if state and state.get("state", "aside") != "aside":
-            break
+    while (time.monotonic() < until and process.poll() is None
+           and (turns.keep_state(office) or {}).get("state", "aside") == "aside"):
         time.sleep(0.05)
     return status(office)
 
@@ -271,11 +279,9 @@ def stop(office: Office) -> None:
 
 def ending(office: Office) -> str:
     """How the last `keep` ended, as far as it has left word, and what begins another."""
-    left = turns.said_by(0, turns.text_of(office, "keep.lock"), is_gone=True)
-    if left.get("state") == "serving":
-        where = os.path.dirname(left["place"]) or left["place"]
-        return (f"it was killed while it served for {left['day']}, or the machine stopped; all that it answered is kept"
-                f"; `office keep start {where}` begins it, and a service begins by itself")
+    if place := turns.said_by(0, turns.text_of(office, "keep.lock"), is_gone=True).get("place"):
+        return ("it was killed, or the machine stopped; all that it answered is kept; `office keep start "
+                f"{os.path.dirname(place) or place}` begins it, and a service begins by itself")
     journal = beside.folder(office.path, JOURNAL)
     with contextlib.suppress(OSError, IndexError), open(journal, encoding="utf-8", errors="replace") as file:
         return f"the last line of {journal}: {plain(file.read().splitlines()[-1]).removeprefix('office: ')}"

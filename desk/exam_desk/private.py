@@ -37,10 +37,11 @@ def private_copy(path: str, office: str) -> Iterator[str]:
 
 @contextlib.contextmanager
 def filled(office: str, fill: Callable[[str], object]) -> Iterator[str]:
-    """A private folder beside an office with what `fill` puts there; in TMPDIR where that cannot be written there."""
+    """A private folder beside an office with what `fill` puts there; in TMPDIR without one, or where it has no room."""
     with contextlib.ExitStack() as stack:
         try:
-            folder = stack.enter_context(own_folder(office))
+            place = beside.make_folder(office, PLACE) if os.path.isfile(office) else tempfile.gettempdir()
+            folder = stack.enter_context(private_folder(place))
             fill(folder)
         except (OSError, beside.Strange) as fault:
             if isinstance(fault, OSError) and fault.errno not in ELSEWHERE:
@@ -49,11 +50,6 @@ def filled(office: str, fill: Callable[[str], object]) -> Iterator[str]:
             folder = stack.enter_context(private_folder(tempfile.gettempdir()))
             fill(folder)
         yield folder
-
-
-def own_folder(office: str) -> contextlib.AbstractContextManager[str]:
-    """A private folder beside an office; in TMPDIR where there is no office."""
-    return private_folder(beside.make_folder(office, PLACE) if os.path.isfile(office) else tempfile.gettempdir())
 
 
 def zipped(office: str, name: str, fill: Callable[[str], object]) -> bytes:

@@ -116,9 +116,8 @@ class Kept(sample.KeptSchool):
         os.kill(self.state()["pid"], signal.SIGKILL)
         sample.until(lambda: has_ended(serve))
         self.assertEqual(self.refused("keep", "status"),
-                         f"office: `keep` does not run; it was killed while it served for {sample.TODAY}, or the machine "
-                         f"stopped; all that it answered is kept; `office keep start {self.port}` begins it, and a service "
-                         "begins by itself\n")
+                         "office: `keep` does not run; it was killed, or the machine stopped; all that it answered is "
+                         f"kept; `office keep start {self.port}` begins it, and a service begins by itself\n")
         self.assertEqual(self.office("withdraw", "0001000", "MA-1"), "withdrawn\n")
         self.office("keep", "start", str(self.port))
         self.assertEqual(self.ask("GET", "appeals")[1]["appeals"][0]["state"], "open")
@@ -156,30 +155,43 @@ class Kept(sample.KeptSchool):
         self.assertEqual(self.stored(), [("D1", 1), ("D2", 2)])
 
 
+class Ports(sample.SampleSchool):
+    def test_a_port_in_use_is_named_with_who_has_it(self):
+        with socket.create_server(("127.0.0.1", 0)) as other:
+            port = other.getsockname()[1]
+            self.assertRegex(self.refused("keep", "start", str(port)),
+                             rf": 127.0.0.1 {port} \(process {os.getpid()}, \S+; \d+ is free\) cannot be had: Address "
+                             "already in use\n$")
+
+
 class NewDay(sample.SampleSchool):
     def test_a_copy_that_cannot_be_kept_is_tried_again(self):
         with turns.lock_file(self.value, "keep.lock") as lock:
             keep = keeping.Keep(self.value, "8080", 2, lock)
             with mock.patch.object(keeping.copies, "keep_day", side_effect=OSError(28, "No space left on device")):
-                keep.keep_day(self.value.today())
+                keep.keep_day()
             self.assertLess(keep.copy_again, float("inf"))
-            keep.keep_day(self.value.today())
+            keep.keep_day()
             self.assertEqual(keep.copy_again, float("inf"))
         self.assertEqual(os.listdir(os.path.join(f"{self.folder}/desk-office.db", "days")), [sample.TODAY])
 
-    def test_a_new_day_is_served_with_its_date_and_a_copy(self):
+    def test_a_new_day_is_served_with_its_date_and_a_copy_also_where_the_clock_goes_back(self):
         today = mock.Mock(return_value=datetime.date(2027, 5, 1))
-        with mock.patch("exam_desk.keeping.say"):
-            asyncio.run(self.two_days(dataclasses.replace(self.value, today=today), today))
+        with mock.patch("exam_desk.keeping.say") as say:
+            asyncio.run(self.days(dataclasses.replace(self.value, today=today), today))
         self.assertEqual(sorted(os.listdir(os.path.join(self.desk, "days"))), ["2027-05-02", "2027-05-03"])
+        self.assertEqual([text for call in say.mock_calls if (text := call.args[0]).startswith("the day")],
+                         ["the day is 2027-05-02 now", "the day is 2027-05-03 now",
+                          "the day is 2027-05-02 now: the clock went back from 2027-05-03"])
 
-    async def two_days(self, office, today):
+    async def days(self, office, today):
         keep = keeping.Keep(office, str(sample.free_port()), 2, turns.lock_file(office, "keep.lock"))
         served = asyncio.create_task(keep.run())
-        for day in (1, 2, 3):
+        for day in (1, 2, 3, 2):
             today.return_value = datetime.date(2027, 5, day)
-            while f"2027-05-0{day}" not in turns.text_of(office, "keep.lock"):
-                await asyncio.sleep(0.02)
+            async with asyncio.timeout(sample.PATIENCE):
+                while f'"day": "2027-05-0{day}"' not in turns.text_of(office, "keep.lock"):
+                    await asyncio.sleep(0.02)
         keep.end()
         await served
         keep.lock.close()

@@ -298,7 +298,7 @@ class Days(sample.SampleSchool):
         for name in names:
             os.mkdir(os.path.join(days, name), 0o700)
         with mock.patch("exam_desk.keeping.say"):
-            keeping.Keep.keep_day(mock.Mock(days=2, office=self.value), self.value.today())
+            keeping.Keep.keep_day(mock.Mock(days=2, office=self.value, day=self.value.today()))
         self.assertEqual(sorted(os.listdir(days)), sorted([*names[2:], sample.TODAY]))
 
 
