@@ -9,7 +9,7 @@ from collections.abc import Callable, Iterator, Sequence
 from dataclasses import dataclass, field, replace
 
 import command
-from exam_desk import (beside, changing, copies, effects, listed, lists, lodging, logbook, losses, notebook,
+from exam_desk import (beside, changing, copies, effects, files, listed, lists, lodging, logbook, losses, notebook,
                        private, refusals, running, snapshot, turns, typed)
 from exam_desk.changing import Answered, Rehearsal, Step
 from exam_desk.office import Office
@@ -280,7 +280,19 @@ def of_program(words: list[str]) -> Change | None:
     whole = [*words[:first], *map(typed.number, words[first:first + 1]), *words[first + 1:]]
     if whole != words and running.takes(running.help_text(command.office(), words[0]))[:1] == ["number"]:
         words = whole
-    return Change([Step(tuple(words))])
+    return Change([Step(tuple(words), piped(words))])
+
+
+def piped(words: Sequence[str]) -> bytes | None:
+    """What comes over standard input to an import, all of it before the office is taken; None where that reads a file.
+    Raises `Trouble` for what else is no file, such as a pipe to which nobody writes."""
+    _, path = refusals.imported(words) or ("", "")
+    if not os.path.exists(path) or os.path.isfile(path):
+        return None
+    if not os.path.samefile(path, running.INPUT):
+        raise Trouble(f"is no file, but a folder, a pipe or a device; {running.INPUT} takes rows from a pipe; nothing "
+                      "is changed", path)
+    return files.read(path)
 
 
 def of_list(name: str, path: str) -> List:

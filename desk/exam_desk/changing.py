@@ -11,7 +11,6 @@ of a change, and of the copy from before it:
     killed                  the next change says from the log what was broken off, and how to put the copy back
 """
 import contextlib
-import errno
 import functools
 import itertools
 import os
@@ -213,9 +212,8 @@ def unchanged(office: Office) -> Iterator[None]:
     try:
         yield
     except OSError as fault:
-        place, days = fault.filename or beside.folder(office.path), beside.folder(office.path, copies.DAYS)
-        room = f"; make room, for example in {days}" if fault.errno == errno.ENOSPC else ""
-        raise Trouble(f"no copy of the office can be kept, so nothing is changed: {place}: {fault.strerror}{room}"
+        raise Trouble(f"no copy of the office can be kept, so nothing is changed: "
+                      f"{fault.filename or beside.folder(office.path)}: {fault.strerror}{beside.room(office.path, fault)}"
                       ) from fault
     except sqlite3.Error as fault:
         raise Trouble(f"{office.path} cannot be read, so nothing is changed: {fault}; `office check` says more"

@@ -13,7 +13,7 @@ import re
 from collections.abc import Callable, Collection, Iterable, Iterator
 from typing import TYPE_CHECKING, NamedTuple
 
-from exam_desk import words
+from exam_desk import beside, words
 from exam_desk.trouble import Trouble
 
 if TYPE_CHECKING:
@@ -67,7 +67,7 @@ def put(path: str, text: bytes) -> None:
         number = os.open(path, os.O_WRONLY | os.O_CREAT | os.O_EXCL, 0o600)
     except FileExistsError:
         raise Trouble(f"{path} is there already; name another") from None
-    with open(number, "wb") as file:
+    with beside.naming(path), open(number, "wb") as file:
         try:
             file.write(text)
             file.flush()

@@ -1,14 +1,14 @@
 """What a refusal of the program means, in words; for an import with the line and the value; for 23 with its cause."""
 import contextlib
-import errno
 import glob
 import os
 import re
+import shutil
 import stat
 import tempfile
 from collections.abc import Sequence
 
-from exam_desk import files, turns
+from exam_desk import beside, files, turns
 from exam_desk.office import Office
 from exam_desk.trouble import NoOffice, Trouble
 from exam_desk.words import plain
@@ -138,7 +138,9 @@ def lasting_cause(office: Office) -> str | None:
         return f"{path}-journal lies beside the file: sqlite3 was stopped in a change; open the file there, or move it"
     for name in (path, path + "-wal"):
         if os.path.exists(name) and not os.access(name, os.R_OK | os.W_OK):
-            return f"no permission to change {name}; it belongs to user {os.stat(name).st_uid}"
+            owner = os.stat(name).st_uid
+            way = f": `chmod u+rw {name}`" * (owner == os.geteuid())
+            return f"no permission to change {name}; it belongs to {beside.user_name(owner)}{way}"
     return no_writing(place) or no_room(place) or damage(path)
 
 
@@ -153,7 +155,7 @@ def no_room(place: str) -> str | None:
             file.write(bytes(1 << 18))
             file.flush()
     except OSError as fault:
-        if fault.errno in (errno.ENOSPC, errno.EDQUOT):
+        if fault.errno in beside.FULL:
             return f"the disk is full ({place})"
         return f"nothing can be written in the folder {place}: {fault.strerror}"
     return None
@@ -193,7 +195,8 @@ def cause(office: Office) -> str:
     """Why the database cannot be used, as far as it can be found out."""
     found = holder(office)
     if found is None:
-        return lasting_cause(office) or "no cause is to be seen now"
+        free = shutil.disk_usage(os.path.dirname(os.path.realpath(office.path))).free >> 10
+        return lasting_cause(office) or f"no cause is to be seen now; its disk has {free:,} KiB free"
     process, words = found
     state = turns.keep_state(office)
     if state and state.get("serve") == process:

@@ -45,7 +45,10 @@ def wrong(names: Sequence[str], words: Sequence[str]) -> list[str]:
 
 
 def wrong_of_lodging(words: Sequence[str]) -> list[str]:
-    """As `wrong`, of NUMBER SESSION KIND VALUE .. REASON; only of the first three where there is no such kind."""
+    """As `wrong`, of NUMBER SESSION KIND VALUE .. REASON; only of the first three where there is no such kind, and of the
+    first where the second is a kind."""
+    if words[1:2] and words[1] in APPEALS:
+        return [*wrong(["number"], words[:1]), "session is missing"]
     kind = "".join(words[2:3])
     if kind not in APPEALS:
         return wrong(["number", "session", KIND], words[:3])

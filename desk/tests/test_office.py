@@ -19,10 +19,14 @@ from exam_desk import copies, refusals
 
 class Faults(unittest.TestCase):
     def test_who_may_not_read_is_named(self):
+        """Where room can be made is said of what lies beside the office; another file may be on another disk."""
+        note, days = (os.path.realpath(f"desk-office.db/{name}") for name in ("notebook/notes.json.new", "days"))
         for fault, said in ((PermissionError(13, "Denied", "c.csv"), "c.csv: Denied to the user ada"),
+                            (OSError(28, "No space left", note), f"{note}: No space left; make room, for example in {days}"),
+                            (OSError(28, "No space left", "/mnt/c.csv"), "/mnt/c.csv: No space left"),
                             (FileNotFoundError(2, "No such file", "c.csv"), "c.csv: No such file")):
             with mock.patch("exam_desk.beside.user_name", return_value="ada"), \
-                    redirect_stderr(io.StringIO()) as out:
+                    mock.patch.dict(os.environ, OFFICE="office.db"), redirect_stderr(io.StringIO()) as out:
                 command.tell(type(fault), fault, None)
             self.assertEqual(out.getvalue(), f"office: {said}\n")
 
@@ -56,6 +60,20 @@ class Words(sample.SampleSchool):
     def test_a_file_that_is_not_there_is_named_with_its_folder(self):
         self.assertEqual(self.refused("import", "entries", "none.csv").split("\n")[::2],
                          ["file fault", f"  it was looked for as {os.path.join(self.folder, 'none.csv')}"])
+
+    def test_rows_from_a_pipe(self):
+        """Those of standard input are whole before the office is taken; a pipe to which nobody writes keeps nobody
+        waiting, and the log says nothing of it."""
+        pipe = os.path.join(self.folder, "rows")
+        os.mkfifo(pipe)
+        for path in (pipe, self.folder):
+            for words in (["import", "entries", path], ["what-if", "import", "--", "entries", path]):
+                self.assertIn(f"office: {path}: is no file, but a folder, a pipe", self.refused(*words))
+        self.assertFalse(os.path.exists(os.path.join(self.desk, "log")))
+        self.assertEqual(self.office("import", "entries", "/dev/stdin", stdin="number,paper\n0001000,MA-1\n"),
+                         "added 0 changed 0 same 1\n")
+        self.assertIn("  stdin line 2: number '1000': leading zeros lost?",
+                      self.refused("import", "entries", "/dev/stdin", stdin="number,paper\n1000,MA-1\n"))
 
     def test_what_is_wrong_with_a_row(self):
         for row, text in [("0001000,A,B,WK3DEGZDPC", "4 fields in place of 3; put a value with a comma in double quotes"),
@@ -136,6 +154,7 @@ class Words(sample.SampleSchool):
                             (["lodge", "1051x", "mon-am"], "number '1051x': seven digits; session 'mon-am': write MON-AM (1 "
                              "to 12 of A-Z, 0-9 and -); kind of appeal is missing"),
                             (["lodge", "0001051", "MON-AM", "hall", "PC1"], "reason is missing"),
+                            (["lodge", "0001051", "arrangement", "quiet", "0", "x"], "session is missing\n"),
                             (["lodge", "0001051", "MON-AM", "arrangement", "-", "30%", "x"], "extra '30%': write 30")):
             done = self.run_office(*words)
             self.assertEqual((done.returncode, done.stdout), (2, ""), words)
@@ -237,6 +256,19 @@ class Causes(sample.SampleSchool):
     def test_a_second_hard_link(self):
         os.link(self.path, os.path.join(self.folder, "other.db"))
         self.assertIn("has a second name", self.cause())
+
+    def test_a_file_that_one_may_not_change(self):
+        """The user to whom it belongs can give the permission."""
+        with mock.patch("os.access", return_value=False), mock.patch("exam_desk.beside.user_name", return_value="ada"):
+            for user, cure in ((os.getuid(), f": `chmod u+rw {self.path}`"), (os.getuid() + 1, "")):
+                with mock.patch("os.geteuid", return_value=user):
+                    self.assertEqual(refusals.lasting_cause(self.value),
+                                     f"no permission to change {self.path}; it belongs to ada{cure}")
+
+    def test_without_a_cause_the_room_of_the_disk_is_said(self):
+        """The copy from before the change is gone by then, and its room is free again."""
+        with mock.patch("shutil.disk_usage", return_value=mock.Mock(free=300 << 10)):
+            self.assertEqual(refusals.cause(self.value), "no cause is to be seen now; its disk has 300 KiB free")
 
     def test_a_folder_in_which_one_may_not_write(self):
         for path in (os.path.join(self.folder, "new.db"), self.path):
