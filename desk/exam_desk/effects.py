@@ -30,8 +30,8 @@ SLIPS = {OVER, PAST, OPENED, SHUT}
 OF_PLACES = [*SLIPS, HALLS, PRINTED]  # kinds of which sessions and halls are counted, and not people
 CODES = ("has another access code", "have other access codes")
 ENTERED_AGAIN = "`office back 1` or `office reinstate ..`, then "  # before who has left can be noted as absent
-LISTED_BY = {PAST: "", OPENED: "", SHUT: "", CLASHES: "clashes {}", TWICE: "summary {}", HALLS: "summary {}",
-             PRINTED: "printed {} --look"}
+LISTED_BY = {CLASHES: ("clashes {}", "look --clashes"), TWICE: ("summary {}", "summary"), HALLS: ("summary {}", "summary"),
+             PRINTED: ("printed {} --look", "printed")}  # of one session, and of all
 GRAVEST = 4  # groups that have a line of their own in a short answer
 MOST_NAMED = 3  # candidates in such a line, or sessions
 COUNTED = [PAST, "gets", "leaves", "joins", "desk"]  # not named where the others are listed with what becomes of them
@@ -225,7 +225,7 @@ def groups(effects: Effects) -> Groups:
 
 
 def on_old_paper(halls: Mapping[str, list[str]]) -> list[Met]:
-    return [Met(code, f"for {', '.join(found) or 'no hall'}", f"afterwards `office {LISTED_BY[PRINTED].format(code)}`")
+    return [Met(code, f"for {', '.join(found) or 'no hall'}", f"afterwards `office {LISTED_BY[PRINTED][0].format(code)}`")
             for code, found in halls.items()]
 
 
@@ -342,11 +342,13 @@ def brief(met: Groups) -> list[str]:
 
 
 def listing(met: Groups, copy: int) -> list[str]:
-    """What lists them, if something does: the changes since a copy where somebody sits otherwise, and the clashes and
-    the overlaps."""
-    words = [f"changes {copy}"] if met.keys() - LISTED_BY.keys() else []
-    words += [LISTED_BY[kind].format(each.session) for kind in met if LISTED_BY.get(kind) for each in met[kind]]
-    return ["; office ".join([*dict.fromkeys(words)][:MOST_NAMED])] if words else []
+    """What lists them, if something does: the changes since a copy where somebody sits otherwise; clashes, overlaps and
+    papers by session, or all together where there are several sessions."""
+    words = [f"changes {copy}"] if met.keys() - LISTED_BY.keys() - {PAST, OPENED, SHUT} else []
+    for kind, (of_one, of_all) in LISTED_BY.items():
+        sessions = dict.fromkeys(each.session for each in met.get(kind, []))
+        words += map(of_one.format, sessions) if len(sessions) < MOST_NAMED else [of_all]
+    return ["; office ".join(dict.fromkeys(words))] if words else []
 
 
 def headline(kind: str, met: list[Met]) -> str:

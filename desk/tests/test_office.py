@@ -390,6 +390,10 @@ class Back(sample.SampleSchool):
         self.office("back", "1", "--yes")
         self.assertFalse(os.path.exists(self.path + "-wal"))
         self.assertEqual(self.office("check"), "good\n")
+        os.remove(self.path + "-wal")  # as `back` leaves it, so the copies of the desk have no second file either
+        for copy in (copies.keep_copy(self.value, "x"), copies.keep_day(self.value, self.value.today(), 1)):
+            self.assertFalse(os.path.exists(f"{copy}/office.db-wal"))
+            self.assertEqual(self.office("check", OFFICE=f"{copy}/office.db"), "good\n")
 
     def test_a_copy_of_an_earlier_version_is_put_back(self):
         with closing(sqlite3.connect(self.path)) as file:

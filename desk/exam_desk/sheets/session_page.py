@@ -23,7 +23,7 @@ NONE = Markup("<p>None.</p>")
 BAR = "<svg class=bar viewBox='0 0 100 10' preserveAspectRatio=none role=img aria-label='{}'>{}</svg>"
 CARD = "<div class='card {}'><h3>{}</h3>{}</div>"
 EXPLANATION = ("<p>{} So every plan leaves at least {:,} of them without a desk, and no other plan seats more "
-               "candidates than this one.</p><p>What would help: {}another hall that suits some of them.</p>")
+               "candidates than this one.</p><p>What would help: {}another hall that suits some of them{}.</p>")
 
 Part = tuple[str, int]  # of a bar: its kind and its length
 
@@ -106,7 +106,9 @@ class Page:
         if halls:
             reason = (f"Each of these {people:,} candidates can sit only in {few(halls)}, which "
                       f"{'has' if len(halls) == 1 else 'have'} {count(self.shortage.desks, 'desk')}.")
-        return html(EXPLANATION, reason, self.shortage.unseated, "more desks there, or " if halls else "")
+        obstacles = (each for who in self.unseated for hall in self.openings for each in self.reasons.obstacles(who, hall))
+        longer = ", or one of the others for longer" * any(each.startswith(reasons.CLOSES) for each in obstacles)
+        return html(EXPLANATION, reason, self.shortage.unseated, "more desks there, or " if halls else "", longer)
 
     def balance(self) -> Markup:
         """Candidates, desks and unseated as three bars of one scale."""
