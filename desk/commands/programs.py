@@ -163,9 +163,8 @@ class Back(Change):
 
     def tell(self, verb: str, taken: list[Said], others: list[str]) -> None:
         """Says what is taken away, and what is left as it is beside the office though the copy has it otherwise."""
-        when, what = copies.when_and_what(self.copy)
         left = [f"left as they are now, and otherwise in the copy: {', '.join(others)}"] if others else []
-        command.say_lines([f"the office {verb} as it was on {when}, before {what}",
+        command.say_lines([f"the office {verb} {copies.state_of(self.copy)}",
                            *(f"taken away: {line}" for line in taken), *left])
 
     def __call__(self) -> int:
@@ -281,24 +280,23 @@ def of_program(words: list[str]) -> Change | None:
     whole = [*words[:first], *map(typed.number, words[first:first + 1]), *words[first + 1:]]
     if whole != words and running.takes(running.help_text(command.office(), words[0]))[:1] == ["number"]:
         words = whole
-    return Change([Step(tuple(words), piped(words))])
+    return Change([Step(tuple(words), rows_given(words))])
 
 
-def piped(words: Sequence[str]) -> bytes | None:
-    """What comes over standard input to an import, all of it before the office is taken; None where that reads a file.
-    Raises `Trouble` for what else is no file, such as a pipe to which nobody writes."""
+def rows_given(words: Sequence[str]) -> bytes | None:
+    """The bytes of the file of an import, or of standard input, before the office is taken; None where they cannot be
+    read, as the program says. Raises `Trouble` for what is no file, such as a pipe to which nobody writes."""
     _, path = refusals.imported(words) or ("", "")
-    if not os.path.exists(path) or os.path.isfile(path):
-        return None
-    if not os.path.samefile(path, running.INPUT):
-        raise Trouble(f"is no file, but a folder, a pipe or a device; {running.INPUT} takes rows from a pipe; nothing "
-                      "is changed", path)
-    return files.read(path)
+    with contextlib.suppress(OSError):
+        if not (os.path.isfile(path) or os.path.samefile(path, running.INPUT)):
+            raise Trouble(f"{beside.NO_FILE}; {running.INPUT} takes rows from a pipe; nothing is changed", path)
+        return files.read(path)
+    return None
 
 
 def of_list(name: str, path: str) -> List:
     """Withdraws or reinstates the entries of a file."""
-    rows, wrong = listed.rows_of(command.office(), name, path)
+    rows, wrong = listed.rows_of(command.existing_office(), name, path)
     if wrong:
         command.complain(wrong)
         raise Trouble("nothing is changed")

@@ -18,6 +18,7 @@ OTHERS = stat.S_IWGRP | stat.S_IWOTH
 AS_FOLDER = os.O_RDONLY | os.O_DIRECTORY
 SAFELY = os.O_NOFOLLOW | os.O_NONBLOCK  # a pipe in the place of a file keeps nobody waiting
 FULL = {errno.ENOSPC, errno.EDQUOT}  # a disk, or what a user may have of it
+NO_FILE = "is no file, but a folder, a pipe or a device"
 DAYS = "days"  # the folder with the copies of days, which can go
 LINKS = {errno.ELOOP: "is a link, which is not followed", errno.ENOTDIR: "is no folder, or a link to one"}
 
@@ -122,7 +123,7 @@ def strange(found: os.stat_result, flags: int) -> str:
     if found.st_mode & OTHERS:
         return "can be written by others: look what they left, then `chmod go-w` it, or move it away"
     if not flags & os.O_DIRECTORY and not stat.S_ISREG(found.st_mode):
-        return "is no file, but a device or a pipe"
+        return NO_FILE
     return ""
 
 

@@ -1,7 +1,6 @@
 """What could help a session that is short of desks: halls that are open in another way, or are not open. All of it is a
 guess, since only the program says what an opening comes to: `what-if`, or a button, has it rehearse each."""
 import operator
-import sqlite3
 from collections import Counter
 from collections.abc import Iterator
 from statistics import mode
@@ -30,7 +29,7 @@ class Remedy(NamedTuple):
     opening: Opening
     now: Opening | None
     is_more: bool = False  # than the hall has in any session
-    held: str = ""  # a session that has the hall then, where it is not open
+    held: str = ""  # the first session that has the hall then, where it is not open
 
     def asks(self) -> int:
         """For how much: more desks, or another hall, count twice."""
@@ -54,19 +53,14 @@ def best(rows: Rows, why: Reasons, sheet: Shortage) -> list[Remedy]:
     if halls * len(sheet.candidates) > MOST_PAIRS:
         return []
     others = rows.execute(HELD, [why.session]).fetchall()
-    options = [each._replace(held=holder(others, each)) for each in remedies(rows, why, sheet)]
+    options = [each._replace(held=next((code for hall, code, begins in others if hall == each.opening.hall
+                                        and begins < each.opening.until and not each.now), ""))
+               for each in remedies(rows, why, sheet)]
     most = max((each.seats for each in options if not each.is_more and not each.held), default=0)
     for each in sorted(options, key=lambda each: (each.is_more, each.held != "", -each.seats, each.asks())):
         if not each.is_more or each.seats > most:
             found.setdefault((each.seats, each.opening.hall), each)
     return [*found.values()][:MOST]
-
-
-def holder(others: list[sqlite3.Row], remedy: Remedy) -> str:
-    """The first session that has the hall of a remedy at that time; "" where the hall is free, or open already."""
-    wanted = remedy.opening
-    return next((code for hall, code, begins in others
-                 if hall == wanted.hall and begins < wanted.until and not remedy.now), "")
 
 
 def remedies(rows: Rows, why: Reasons, sheet: Shortage) -> Iterator[Remedy]:

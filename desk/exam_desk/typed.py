@@ -47,12 +47,10 @@ def wrong(names: Sequence[str], words: Sequence[str]) -> list[str]:
 def wrong_of_lodging(words: Sequence[str]) -> list[str]:
     """As `wrong`, of NUMBER SESSION KIND VALUE .. REASON; only of the first three where there is no such kind, and of the
     first where the second is a kind."""
-    if words[1:2] and words[1] in APPEALS:
-        return [*wrong(["number"], words[:1]), "session is missing"]
-    kind = "".join(words[2:3])
-    if kind not in APPEALS:
-        return wrong(["number", "session", KIND], words[:3])
-    return wrong(["number", "session", KIND, *APPEALS[kind], REASON], words)
+    first, kind = ["number", "session", KIND], "".join(words[2:3])
+    if not APPEALS.keys().isdisjoint(words[1:2]):
+        return [*wrong(first[:1], words[:1]), "session is missing"]
+    return wrong([*first, *APPEALS[kind], REASON], words) if kind in APPEALS else wrong(first, words[:3])
 
 
 def shown(word: str) -> str:

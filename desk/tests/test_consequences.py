@@ -159,10 +159,10 @@ class Told(sample.SampleSchool):
     def test_what_lists_those_of_many_sessions(self):
         """Of two sessions each has its own command; from three on one lists all."""
         met = {"clashes": [effects.Met(code, "0001000 Ada Lin", "") for code in ("S1", "S2", "S2")]}
-        self.assertEqual(effects.listing(met, 1), ["clashes S1; office clashes S2"])
+        self.assertEqual(effects.listing(met, 1), ["`office clashes S1; office clashes S2` lists them"])
         met["clashes"].append(effects.Met("S3", "0001000 Ada Lin", ""))
         self.assertEqual(effects.listing({**met, "printed": met["clashes"], "moves": []}, 2),
-                         ["changes 2; office look --clashes; office printed"])
+                         ["`office changes 2; office look --clashes; office printed` lists them"])
 
     def test_who_is_not_touched_is_not_spoken_of(self):
         same = str(self.examples / "entries.csv")

@@ -272,14 +272,14 @@ class Causes(sample.SampleSchool):
 
     def test_a_folder_in_which_one_may_not_write(self):
         for path in (os.path.join(self.folder, "new.db"), self.path):
-            with mock.patch("os.access", lambda name, _: os.path.isfile(name)):
-                self.assertEqual(refusals.lasting_cause(replace(self.value, path=path)),
-                                 f"no permission to write in the folder {os.path.realpath(self.folder)}")
+            with mock.patch("tempfile.TemporaryFile", side_effect=PermissionError(13, "Permission denied")):
+                self.assertEqual(refusals.lasting_cause(replace(self.value, path=path)), "nothing can be written in the "
+                                 f"folder {os.path.realpath(self.folder)}: Permission denied")
 
     def test_a_folder_and_a_pipe(self):
         pipe = os.path.join(self.folder, "pipe.db")
         os.mkfifo(pipe)
-        for path, text in [(self.folder, "is a folder"), (pipe, "is no file")]:
+        for path, text in [(self.folder, "is no file, but a folder"), (pipe, "is no file")]:
             for words in (["check"], ["shortage", "MON-AM"], ["withdraw", "0001000", "MA-1"]):
                 self.assertIn(text, self.refused(*words, OFFICE=path))
         self.assertIn("is no file", self.refused("why", "MON-AM", OFFICE=pipe))
@@ -438,15 +438,17 @@ class Back(sample.SampleSchool):
         self.assertEqual(self.office("check"), "good\n")
 
     def test_a_killed_command_leaves_no_lock(self):
-        process = subprocess.Popen([sample.DESK / "office", "import", "entries", "/dev/stdin"], env=self.environment,
-                                   stdin=subprocess.PIPE, stderr=subprocess.DEVNULL)
-        sample.until(lambda: os.path.exists(os.path.join(self.desk, "log")))
-        process.kill()
-        process.communicate()
+        line = [sample.DESK / "office", "import", "entries", self.write("late.csv", "number,paper\n0001000,FR\n")]
+        with closing(sqlite3.connect(self.path)) as file:
+            file.execute("BEGIN IMMEDIATE")  # so the command waits in its turn
+            with subprocess.Popen(line, env=self.environment, stderr=subprocess.DEVNULL) as process:
+                sample.until(lambda: os.path.exists(os.path.join(self.desk, "log")))
+                process.kill()
+            file.rollback()
         done = self.run_office("withdraw", "0001000", "MA-1")
         self.assertEqual((done.stdout, done.returncode), ("withdrawn\n", 0))
-        self.assertRegex(done.stderr, "^office: `import entries /dev/stdin` of .* was broken off; nothing of it "
-                                      "is left\n1 leaves a session: ")
+        self.assertRegex(done.stderr, "^office: `import entries .*/late.csv for 0001000 FR` of .* was broken off; nothing "
+                                      "of it is left\n1 leaves a session: ")
         self.assertEqual(self.office("reinstate", "0001000", "MA-1"), "reinstated\n")
 
 

@@ -139,8 +139,12 @@ class Papers(sample.SampleSchool):
                      "48 candidates: 46 seated, 2 without a desk.", "4 candidates = 2 desks + 2 unseated",
                      "Each of these 4 candidates can sit only in LIB, which has 2 desks.",
                      "<li>AULA, GYM, PC1, R12, R14: <bdi>no reader</bdi></li>",
+                     "What would help: more desks there, or another hall that suits some of them.<",
                      "<li>LIB: <bdi>suits, but 2 of 2 desks are taken: "):
             self.assertIn(part, text)
+        self.office("open-hall", "TUE-AM", "LIB", "2", "10:00")
+        self.assertIn("What would help: another hall that suits some of them, or a hall open for longer.<",
+                      self.office("session-page", "TUE-AM"))
         self.assertIn("no session XX", self.refused("session-page", "XX"))
 
     def change(self, *statements):

@@ -106,9 +106,9 @@ class Page:
         if halls:
             reason = (f"Each of these {people:,} candidates can sit only in {few(halls)}, which "
                       f"{'has' if len(halls) == 1 else 'have'} {count(self.shortage.desks, 'desk')}.")
-        obstacles = (each for who in self.unseated for hall in self.openings for each in self.reasons.obstacles(who, hall))
-        longer = ", or one of the others for longer" * any(each.startswith(reasons.CLOSES) for each in obstacles)
-        return html(EXPLANATION, reason, self.shortage.unseated, "more desks there, or " if halls else "", longer)
+        is_early = any(reasons.CLOSES in why for who in self.unseated for _, why in self.reasons.of(who))
+        return html(EXPLANATION, reason, self.shortage.unseated, "more desks there, or " if halls else "",
+                    ", or a hall open for longer" * is_early)
 
     def balance(self) -> Markup:
         """Candidates, desks and unseated as three bars of one scale."""
