@@ -245,8 +245,8 @@ def dispatch(office: Office, words: list[str]) -> Ran:
     if words[0] == "check" and os.path.isfile(office.path):  # changes no facts, but needs the office for itself
         # With a log it is an office that is used, and `back` leaves one file; a copy of the desk has all that there was.
         place = os.path.realpath(office.path)
-        whole = (f"{place}-wal", beside.folder(place, logbook.NAME), os.path.join(os.path.dirname(place), copies.TITLE))
-        is_lacking = not any(map(os.path.exists, whole)) and f"/desk-{office.base_name()}/{beside.DAYS}/" not in place
+        seen = (f"{place}-wal", beside.folder(place, logbook.NAME), os.path.join(os.path.dirname(place), copies.TITLE))
+        is_lacking = not any(map(os.path.exists, seen)) and f"/desk-{office.base_name()}/{beside.DAYS}/" not in place
         with contextlib.suppress(OSError), turns.alone(office, words):
             ran = changing.run_patiently(office, changing.Step(tuple(words)))
             if is_lacking and ran.status == 0:

@@ -207,9 +207,9 @@ def unchanged(office: Office) -> Iterator[None]:
     try:
         yield
     except OSError as fault:
-        raise Trouble(f"no copy of the office can be kept, so nothing is changed: "
-                      f"{fault.filename or beside.folder(office.path)}: {fault.strerror}{beside.room(office.path, fault)}"
-                      ) from fault
+        place = fault.filename or beside.folder(office.path)
+        raise Trouble(f"no copy of the office can be kept, so nothing is changed: {place}: {fault.strerror}"
+                      f"{beside.room(office.path, fault)}") from fault
     except sqlite3.Error as fault:
         raise Trouble(f"{office.path} cannot be read, so nothing is changed: {fault}; `office check` says more"
                       ) from fault

@@ -30,8 +30,8 @@ SLIPS = {OVER, PAST, OPENED, SHUT}
 OF_PLACES = [*SLIPS, HALLS, PRINTED]  # kinds of which sessions and halls are counted, and not people
 CODES = ("has another access code", "have other access codes")
 ENTERED_AGAIN = "`office back 1` or `office reinstate ..`, then "  # before who has left can be noted as absent
-LISTED_BY = {CLASHES: ("clashes {}", "look --clashes"), TWICE: ("summary {}", "summary"), HALLS: ("summary {}", "summary"),
-             PRINTED: ("printed {} --look", "printed")}  # of one session, and of all
+LISTED_BY = {CLASHES: ("clashes {}", "look --clashes"), TWICE: ("summary {}", "summary"),  # of one session, and of all
+             HALLS: ("summary {}", "summary"), PRINTED: ("printed {} --look", "printed")}
 GRAVEST = 4  # groups that have a line of their own in a short answer
 MOST_NAMED = 3  # candidates in such a line, or sessions
 COUNTED = [PAST, "gets", "leaves", "joins", "desk"]  # not named where the others are listed with what becomes of them
@@ -223,8 +223,8 @@ def groups(effects: Effects) -> Groups:
 
 
 def on_old_paper(halls: Mapping[str, list[str]]) -> list[Met]:
-    return [Met(code, f"for {', '.join(found) or 'no hall'}", f"afterwards `office {LISTED_BY[PRINTED][0].format(code)}`")
-            for code, found in halls.items()]
+    return [Met(code, f"for {', '.join(found) or 'no hall'}",
+                f"afterwards `office {LISTED_BY[PRINTED][0].format(code)}`") for code, found in halls.items()]
 
 
 def noted(halls: Mapping[str, list[str]]) -> list[str]:

@@ -23,9 +23,8 @@ Tell = Callable[[int, Answered], None]  # hears what became of the row that begi
 
 
 def rows_of(office: Office, command: str, path: str) -> tuple[Rows, list[str]]:
-    """The rows of a file with the header of entries, and a line for each mistake in it, an unknown number or paper
-    among them. Zeros in front of a number may be missing, which is said. Raises `Trouble` where there is no such
-    file, or no row in it."""
+    """The rows of a file with the header of entries, and a line for each mistake in it, such as an unknown number. Zeros
+    in front of a number may be missing, which is said. Raises `Trouble` where there is no such file, or no row in it."""
     try:
         text = files.read(path)
     except OSError as fault:

@@ -64,9 +64,8 @@ def best(rows: Rows, why: Reasons, sheet: Shortage) -> list[Remedy]:
 
 
 def remedies(rows: Rows, why: Reasons, sheet: Shortage) -> Iterator[Remedy]:
-    """With the desks that are free, with as many as the hall has in any session, and with as many as are short; a closed
-    hall has no more than it has in another session. A hall is open no longer than is needed; a closed one until most
-    open halls are, where that is later."""
+    """With the desks that are free, with as many as the hall has in any session, and, of an open one, as are short. It
+    is open no longer than is needed; a closed one until most open halls are, where that is later."""
     listed, opened = set(sheet.candidates), {each.hall: each for each in why.openings}
     people = [(member, frozenset(each.hall for each in why.openings if not why.obstacles(member, each)))
               for member in sorted(why.members, key=lambda each: bool(each.sitting.hall)) if member.number in listed]

@@ -269,7 +269,8 @@ class Words(unittest.TestCase):
             "the same as line 3; it counts once",
             "may be what a spreadsheet made of a code such as 1E5, or will make of it",
             "has a space at an end", "holds a left double quotation mark: is a plain one meant?",
-            "holds a no-break space: is a plain one meant?", "holds a right double quotation mark: is a plain one meant?"])
+            "holds a no-break space: is a plain one meant?",
+            "holds a right double quotation mark: is a plain one meant?"])
 
     def test_one_access_code_for_all(self):
         """As where a spreadsheet filled it down: a note on each, and no row is compared with each other one."""

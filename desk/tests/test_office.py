@@ -22,8 +22,8 @@ class Faults(unittest.TestCase):
         """Where room can be made is said of what lies beside the office; another file may be on another disk."""
         note, days = (os.path.realpath(f"desk-office.db/{name}") for name in ("notebook/notes.json.new", "days"))
         for fault, said in ((PermissionError(13, "Denied", "c.csv"), "c.csv: Denied to the user ada"),
-                            (OSError(28, "No space left", note), f"{note}: No space left; make room, for example in {days}"),
-                            (OSError(28, "No space left", "/mnt/c.csv"), "/mnt/c.csv: No space left"),
+                            (OSError(28, "No room", note), f"{note}: No room; make room, for example in {days}"),
+                            (OSError(28, "No room", "/mnt/c.csv"), "/mnt/c.csv: No room"),
                             (FileNotFoundError(2, "No such file", "c.csv"), "c.csv: No such file")):
             with mock.patch("exam_desk.beside.user_name", return_value="ada"), \
                     mock.patch.dict(os.environ, OFFICE="office.db"), redirect_stderr(io.StringIO()) as out:
@@ -447,8 +447,8 @@ class Back(sample.SampleSchool):
             file.rollback()
         done = self.run_office("withdraw", "0001000", "MA-1")
         self.assertEqual((done.stdout, done.returncode), ("withdrawn\n", 0))
-        self.assertRegex(done.stderr, "^office: `import entries .*/late.csv for 0001000 FR` of .* was broken off; nothing "
-                                      "of it is left\n1 leaves a session: ")
+        self.assertRegex(done.stderr, "^office: `import entries .*/late.csv for 0001000 FR` of .* was broken off; "
+                                      "nothing of it is left\n1 leaves a session: ")
         self.assertEqual(self.office("reinstate", "0001000", "MA-1"), "reinstated\n")
 
 
