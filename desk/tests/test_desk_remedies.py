@@ -93,8 +93,8 @@ class TestWhatCouldHelp(SmallSchool):
         self.begin("A,Hall A,-\nGYM,Gym,-\nK,Hall K,-\n", "S1,A,1,12:00,no\nS2,K,1,18:00,no\n",
                    "0000001,SHORT\n0000002,SHORT\n0000003,SHORT\n")
         self.office("import", "sessions", self.write("s.csv", "session,date,start\nS3,2027-06-07,08:00\n"))
-        gym, k, a = (f"office what-if open-hall S1 {hall} 12:00  # could seat {seats} of 2; now {now}"
-                     for hall, seats, now in (("GYM 2", 2, "not open"), ("K 1", 1, "not open"), ("A 3", 2, "1 desk until 12:00")))
+        gym, k, a = (f"office what-if open-hall S1 {hall} 12:00  # could seat {seats} of 2; now {now}" for hall, seats, now in
+                     (("GYM 2", 2, "not open"), ("K 1", 1, "not open"), ("A 3", 2, "1 desk until 12:00")))
         for until, found in (("09:00", [gym, k]),
                              ("09:01", [k, f"{gym}; S3 has it then", f"{a}; more desks than it ever had"])):
             self.office("open-hall", "S3", "GYM", "2", until)
@@ -128,8 +128,8 @@ class TestWhatCouldHelp(SmallSchool):
             ("Have R no longer reserved", "2 of the 3"),
             ("Have A with 4 desks, 3 more, more than it ever had", "3 of the 3"),
             ("Have R no longer reserved, with 3 desks, 1 more, more than it ever had", "3 of the 3")])
-        self.assertIn("  office what-if open-hall S1 R 2 12:00  # could seat 2 of 3; now 2 desks until 12:00, reserved, "
-                      "then no longer\n", self.office("why", "S1"))
+        self.assertIn("  office what-if open-hall S1 R 2 12:00  # could seat 2 of 3; now 2 desks until 12:00, "
+                      "reserved, then no longer\n", self.office("why", "S1"))
 
     def test_needs_that_no_hall_has_together(self):
         """The paper wants a computer, and one who sits it needs quiet; Q has the one and P the other."""
