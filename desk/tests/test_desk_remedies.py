@@ -93,7 +93,7 @@ class TestWhatCouldHelp(SmallSchool):
         self.begin("A,Hall A,-\nGYM,Gym,-\nK,Hall K,-\n", "S1,A,1,12:00,no\nS2,K,1,18:00,no\n",
                    "0000001,SHORT\n0000002,SHORT\n0000003,SHORT\n")
         self.office("import", "sessions", self.write("s.csv", "session,date,start\nS3,2027-06-07,08:00\n"))
-        gym, k, a = (f"office what-if open-hall S1 {hall} 12:00  # could seat {seats} of 2; now {now}" for hall, seats, now in
+        gym, k, a = (f"office what-if open-hall S1 {hall} 12:00  # could seat {of} of 2; now {now}" for hall, of, now in
                      (("GYM 2", 2, "not open"), ("K 1", 1, "not open"), ("A 3", 2, "1 desk until 12:00")))
         for until, found in (("09:00", [gym, k]),
                              ("09:01", [k, f"{gym}; S3 has it then", f"{a}; more desks than it ever had"])):
