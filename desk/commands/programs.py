@@ -18,7 +18,8 @@ from exam_desk.running import Ran
 from exam_desk.trouble import Stale, Trouble
 from exam_desk.words import Said, few, plain
 
-CHANGES, MIGRATE = changing.CHANGES, "migrate"
+MIGRATE = "migrate"
+CHANGES = ["import", "withdraw", "reinstate", "close-hall", "decide", MIGRATE]
 LISTED = {"withdraw": ["--list FILE.csv", "<number> --all"], "reinstate": ["--list FILE.csv"]}  # how a list is typed
 LIST_HELP = """
 With the entries of a file, whose header is number,paper: office {0} --list FILE.csv

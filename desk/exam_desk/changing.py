@@ -27,7 +27,6 @@ from exam_desk.office import Office
 from exam_desk.trouble import Stale, Trouble
 from exam_desk.words import Said, few
 
-CHANGES = ["import", "withdraw", "reinstate", "close-hall", "decide", "migrate"]
 PAUSE = 0.2  # seconds from one try to the next
 MOST_NAMED = 3  # sessions, candidates, papers or halls in the title of a change
 HELD = "SELECT (SELECT count(*) FROM candidate), (SELECT count(*) FROM session)"

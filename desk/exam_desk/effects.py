@@ -102,7 +102,7 @@ def halls_out_of_date(before: Reading, after: Reading, session: str, people: Col
     paper = on_paper.noted(after.office, session)
     if not paper.lines:
         return set()
-    asked = [(reading, telling.entered(reading, session, people)) for reading in (before, after)]
+    asked = [(reading, facts.entered(reading.rows, session, among=people)) for reading in (before, after)]
     then, now = (on_paper.lines_of(reading, session, reading.members(session, numbers)) for reading, numbers in asked)
     lines = (line for number in on_paper.moved(then, now) if paper.lines.get(number) != now.get(number)
              for line in (paper.lines.get(number), now.get(number)))

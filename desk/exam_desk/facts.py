@@ -56,9 +56,10 @@ candidate_names = functools.partial(texts, "SELECT printf('%07d', number), name 
 access_codes = functools.partial(texts, "SELECT printf('%07d', number), code FROM candidate")
 
 
-def entered(rows: Rows, session: str) -> dict[str, int]:
-    """The numbers of all who have an entry in a session, a withdrawn one too, each with the count of these."""
+def entered(rows: Rows, session: str, least: int = 1, among: Collection[str] | None = None) -> list[str]:
+    """The numbers of those of some candidates, or of all, who have so many entries in a session, or more; withdrawn
+    ones count, too."""
     rows.index_entries()
-    found = rows.execute("SELECT printf('%07d', number), count(*) FROM paper JOIN entry ON entry.paper = paper.code "
-                         "WHERE paper.session = ? GROUP BY number ORDER BY number", [session])
-    return dict(found.fetchall())
+    found = rows.execute("SELECT printf('%07d', number) FROM paper JOIN entry ON entry.paper = paper.code "
+                         "WHERE paper.session = ? GROUP BY number HAVING count(*) >= ? ORDER BY 1", [session, least])
+    return [number for number, in found if among is None or number in among]

@@ -120,7 +120,7 @@ def is_hopeless(answers: list[Answered]) -> bool:
 
 def kept(office: Office, answers: list[Answered], copy: str) -> str | None:
     """The copy from before; where nothing was done it goes."""
-    if copy and all(changing.has_done_nothing(office, answered, copy) for answered in answers):
+    if all(changing.has_done_nothing(office, answered, copy) for answered in answers):
         copies.drop(copy)
         return None
-    return copy or None
+    return copy

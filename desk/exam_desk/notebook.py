@@ -166,7 +166,7 @@ def note_absent(office: Office, reading: Reading, session: str, missing: Iterabl
         raise Trouble("nothing is noted: no number is given")
     if both := sorted({*missing} & {*there}):
         raise Trouble(f"nothing is noted: {words.few(both, MOST_NAMED)}: absent, or there?")
-    members = reading.members(session, filter(reading.knows, asked))
+    members = reading.members(session, facts.candidate_names(reading.rows).keys() & {*asked})
     if wrong := sorted({*asked}.difference(member.number for member in members), key=asked.index):
         raise Trouble(f"nothing is noted: {words.few(wrong, MOST_NAMED)}: no candidate of {session}")
     return keep_absent(office, session, missing, there, nobody)

@@ -76,8 +76,7 @@ def desks(office: Office, session: str) -> dict[str, Desk]:
 def lines_of(reading: Reading, session: str, members: Iterable[Member]) -> dict[str, Line]:
     """What papers of a session show of these members."""
     notes, members = notebook.notes(reading.office), [*members]
-    several = {number for number, count in facts.entered(reading.rows, session).items() if count > 1}
-    missed = reading.clashes(session, sorted(several.intersection(member.number for member in members)))
+    missed = reading.clashes(session, facts.entered(reading.rows, session, 2, {each.number for each in members}))
     return {number: Line(Desk(sits.hall or "", sits.desk or 0), [
         name, sits.paper, sits.date, sits.start, sits.finish, "+".join(sits.needs), str(sits.extra),
         "+".join(missed.get(number, ())), notes.get(number, "")]) for number, name, sits in members}
@@ -112,12 +111,9 @@ def all_noted(office: Office) -> dict[str, Paper]:
 
 def with_other_notes(office: Office, notes: Mapping[str, str]) -> dict[str, list[str]]:
     """By session the halls of those of whom other notes are on paper than these by number."""
-    found = {}
-    for code, paper in all_noted(office).items():
-        other = [line for number, line in paper.lines.items() if line.shown[-1] != notes.get(number, line.shown[-1])]
-        if other:
-            found[code] = sorted({line.desk.hall for line in other} - {""})
-    return found
+    found = {code: {line.desk.hall for number, line in paper.lines.items() if line.shown[-1] != notes.get(
+        number, line.shown[-1])} for code, paper in all_noted(office).items()}
+    return {code: sorted(halls - {""}) for code, halls in found.items() if halls}
 
 
 def with_another(office: Office, what: str, value: object) -> dict[str, list[str]]:

@@ -136,15 +136,9 @@ class Reading(contextlib.AbstractContextManager["Reading"]):
     def clashes(self, session: str, only: Collection[str] | None = None) -> dict[str, list[str]]:
         """The papers that each candidate with such papers is entered for and does not sit, by number; of all members,
         or of some candidates."""
-        asked = (number for number, count in facts.entered(self.rows, session).items() if count > 1)
-        several = [self.person(number) for number in (asked if only is None else only)]
+        several = [self.person(number) for number in (facts.entered(self.rows, session, 2) if only is None else only)]
         self.learn(several, "clashes", self.missed, clashes)
         return {person.number: papers for person in several if (papers := self.missed[person.number].get(session))}
-
-    def knows(self, number: str) -> bool:
-        """Whether the office has a candidate with this number of seven digits."""
-        query = "SELECT 1 FROM candidate WHERE printf('%07d', number) = ?"
-        return self.rows.execute(query, [number]).fetchone() is not None
 
     def person(self, number: str) -> Person:
         """Raises `NoCandidate` where the office has none with this number."""

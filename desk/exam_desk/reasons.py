@@ -87,19 +87,15 @@ class Reasons:
         barred, sits = (member.number, opening.hall) in self.barred, member.sitting
         key = (opening, sits.needs, sits.extra > 0, sits.paper, sits.finish, barred)
         if key not in self.found:
-            self.found[key] = self.looked_for(member, opening)
+            there = features(opening.features)
+            found = self.found[key] = [f"no {name}" for name in self.needs(member) if name not in there]
+            if sits.finish > clock(opening.until):
+                found.append(f"{CLOSES}{clock(opening.until)}")
+            if opening.reserved and not sits.needs and not sits.extra:
+                found.append("reserved")
+            if barred:
+                found.append("barred by a granted appeal")
         return self.found[key]
-
-    def looked_for(self, member: Member, opening: Opening) -> list[str]:
-        there, sitting = features(opening.features), member.sitting
-        found = [f"no {name}" for name in self.needs(member) if name not in there]
-        if sitting.finish > clock(opening.until):
-            found.append(f"{CLOSES}{clock(opening.until)}")
-        if opening.reserved and not sitting.needs and not sitting.extra:
-            found.append("reserved")
-        if (member.number, opening.hall) in self.barred:
-            found.append("barred by a granted appeal")
-        return found
 
     def of(self, member: Member) -> list[tuple[str, str]]:
         """The open halls by code, each with why the member does not sit there, or with the desk."""

@@ -229,20 +229,14 @@ def with_moves(changes: Iterable[Change]) -> list[Change]:
     return [*found.values()]
 
 
-def entered(reading: Reading, session: str, people: Collection[str] | None, least: int = 1) -> list[str]:
-    """The numbers of those of these people, or of all, who have so many entries in a session, or more."""
-    return [number for number, count in facts.entered(reading.rows, session).items()
-            if count >= least and (people is None or number in people)]
-
-
 def missing(reading: Reading, session: str, people: Collection[str] | None) -> dict[str, list[str]]:
     """The papers of a session that those of these people, or of all, are entered for and do not sit, by number."""
-    return reading.clashes(session, entered(reading, session, people, 2))
+    return reading.clashes(session, facts.entered(reading.rows, session, 2, people))
 
 
 def sat(reading: Reading, sessions: Touched) -> dict[tuple[str, str], tuple[str, Sitting]]:
     """The names of those who are touched, and what they sit, by session and number; all are asked of at once."""
-    numbers = {session: entered(reading, session, people) for session, people in sessions.items()}
+    numbers = {session: facts.entered(reading.rows, session, among=people) for session, people in sessions.items()}
     reading.ask(map(reading.person, sorted(set().union(*numbers.values()))))
     return {(session, number): (name, sitting) for session, asked in numbers.items()
             for number, name, sitting in reading.members(session, asked)}

@@ -49,17 +49,15 @@ def put(path: str, content: str) -> None:
 
 def keep(office: Office, path: str) -> None:
     """From now on the file at this path is written again after each change."""
-    flags = os.O_WRONLY | os.O_CREAT | os.O_TRUNC
-    with open(beside.open_file(office.path, PLACE, flags=flags), "w", encoding="utf-8", errors="surrogateescape") as file:
-        file.write(os.path.abspath(path))
+    with open(beside.open_file(office.path, PLACE, flags=os.O_WRONLY | os.O_CREAT | os.O_TRUNC), "wb") as file:
+        file.write(os.fsencode(os.path.abspath(path)))
 
 
 def renew(office: Office) -> None:
     """Writes the file again, if one is kept and is there. In place of one that cannot be written a warning has to do."""
     try:
-        with open(beside.open_file(office.path, PLACE, flags=os.O_RDONLY), encoding="utf-8",
-                  errors="surrogateescape") as file:
-            path = file.read()
+        with open(beside.open_file(office.path, PLACE, flags=os.O_RDONLY), "rb") as file:
+            path = os.fsdecode(file.read())
         if os.path.exists(path):
             with snapshot.rows(office) as rows:
                 put(path, text(rows))
