@@ -115,7 +115,8 @@ def tell(kind: type[BaseException], fault: BaseException, place: TracebackType |
     elif isinstance(fault, OSError):
         who = f" to the user {beside.user_name(os.getuid())}" if isinstance(fault, PermissionError) else ""
         where = f"{fault.filename}: " if fault.filename else ""
-        warn(f"{where}{fault.strerror or fault}{who}")
+        is_beside = str(fault.filename).startswith(beside.folder(office().path))
+        warn(f"{where}{fault.strerror or fault}{who}{beside.room(office().path, fault) * is_beside}")
     elif isinstance(fault, sqlite3.Error):
         warn(f"{office().path}: {fault}")
     else:
@@ -138,12 +139,9 @@ def complain(lines: Iterable[str]) -> None:
 
 def say(text: str) -> None:
     """Prints a text and makes sure that it went out whole."""
-    try:
+    with beside.naming("the output"):
         sys.stdout.write(text)
         sys.stdout.flush()
-    except OSError as fault:
-        fault.filename = "the output"
-        raise
 
 
 def say_lines(lines: Iterable[str]) -> None:

@@ -23,19 +23,13 @@ they are: it names those that were others in the copy.
 def back(parser: command.Parser) -> command.Plan:
     from commands import programs
     from exam_desk import copies
-    parser.add_argument("copy", metavar="NUMBER", type=place_of_copy, nargs="?", help="a number of the list")
-    given = command.given(parser, "--yes: do not ask")
-    office = command.office()
-    if given.copy is None:
+    given, office = command.given(parser, "number?: a number of the list", "--yes: do not ask"), command.office()
+    if given.number is None:
         return partial(list_copies, office)
-    return programs.Back(title=f"back {given.copy}", copy=copies.chosen(office, given.copy), is_agreed=given.yes)
-
-
-def place_of_copy(word: str) -> int:
-    from argparse import ArgumentTypeError
-    if not word.isdecimal():
-        raise ArgumentTypeError(f"'{word}' is no number of a copy; `office back` lists them")
-    return int(word)
+    if not given.number.isdecimal():
+        parser.error(f"'{given.number}' is no number of a copy; `office back` lists them")
+    place = int(given.number)
+    return programs.Back(title=f"back {place}", copy=copies.chosen(office, place), is_agreed=given.yes)
 
 
 def list_copies(office: Office) -> None:

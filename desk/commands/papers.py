@@ -210,6 +210,8 @@ def backup(office: Office, path: str) -> tuple[str, str]:
         path = copies.chosen(office, int(path))
     if os.path.isdir(path):
         path = copies.file_in(office, path)
+    if not os.path.exists(path):
+        raise Trouble(f"there is no copy and no file {path}; `office back` lists the copies, by number")
     with contextlib.suppress(Trouble):
         when, what = copies.when_and_what(os.path.dirname(path))
         return path, f"Since {when}, before {what}"

@@ -9,7 +9,7 @@ from collections.abc import Callable, Iterator, Sequence
 from dataclasses import dataclass, field, replace
 
 import command
-from exam_desk import (beside, changing, copies, effects, listed, lists, lodging, logbook, losses, notebook,
+from exam_desk import (beside, changing, copies, effects, files, listed, lists, lodging, logbook, losses, notebook,
                        private, refusals, running, snapshot, turns, typed)
 from exam_desk.changing import Answered, Rehearsal, Step
 from exam_desk.office import Office
@@ -164,9 +164,8 @@ class Back(Change):
 
     def tell(self, verb: str, taken: list[Said], others: list[str]) -> None:
         """Says what is taken away, and what is left as it is beside the office though the copy has it otherwise."""
-        when, what = copies.when_and_what(self.copy)
         left = [f"left as they are now, and otherwise in the copy: {', '.join(others)}"] if others else []
-        command.say_lines([f"the office {verb} as it was on {when}, before {what}",
+        command.say_lines([f"the office {verb} {copies.state_of(self.copy)}",
                            *(f"taken away: {line}" for line in taken), *left])
 
     def __call__(self) -> int:
@@ -245,9 +244,10 @@ def dispatch(office: Office, words: list[str]) -> Ran:
     if words == ["init"]:
         return changing.make_new(office)
     if words[0] == "check" and os.path.isfile(office.path):  # changes no facts, but needs the office for itself
-        # With a log it is an office that is used, and `back` leaves one file.
-        is_lacking = not any(map(os.path.exists, (os.path.realpath(office.path) + "-wal",
-                                                  beside.folder(office.path, logbook.NAME))))
+        # With a log it is an office that is used, and `back` leaves one file; a copy of the desk has all that there was.
+        place = os.path.realpath(office.path)
+        seen = (f"{place}-wal", beside.folder(place, logbook.NAME), os.path.join(os.path.dirname(place), copies.TITLE))
+        is_lacking = not any(map(os.path.exists, seen)) and f"/desk-{office.base_name()}/{beside.DAYS}/" not in place
         with contextlib.suppress(OSError), turns.alone(office, words):
             ran = changing.run_patiently(office, changing.Step(tuple(words)))
             if is_lacking and ran.status == 0:
@@ -281,12 +281,23 @@ def of_program(words: list[str]) -> Change | None:
     whole = [*words[:first], *map(typed.number, words[first:first + 1]), *words[first + 1:]]
     if whole != words and running.takes(running.help_text(command.office(), words[0]))[:1] == ["number"]:
         words = whole
-    return Change([Step(tuple(words))])
+    return Change([Step(tuple(words), rows_given(words))])
+
+
+def rows_given(words: Sequence[str]) -> bytes | None:
+    """The bytes of the file of an import, or of standard input, before the office is taken; None where they cannot be
+    read, as the program says. Raises `Trouble` for what is no file, such as a pipe to which nobody writes."""
+    _, path = refusals.imported(words) or ("", "")
+    with contextlib.suppress(OSError):
+        if not (os.path.isfile(path) or os.path.samefile(path, running.INPUT)):
+            raise Trouble(f"{beside.NO_FILE}; {running.INPUT} takes rows from a pipe; nothing is changed", path)
+        return files.read(path)
+    return None
 
 
 def of_list(name: str, path: str) -> List:
     """Withdraws or reinstates the entries of a file."""
-    rows, wrong = listed.rows_of(command.office(), name, path)
+    rows, wrong = listed.rows_of(command.existing_office(), name, path)
     if wrong:
         command.complain(wrong)
         raise Trouble("nothing is changed")

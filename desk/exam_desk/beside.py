@@ -17,6 +17,9 @@ from exam_desk.trouble import Trouble
 OTHERS = stat.S_IWGRP | stat.S_IWOTH
 AS_FOLDER = os.O_RDONLY | os.O_DIRECTORY
 SAFELY = os.O_NOFOLLOW | os.O_NONBLOCK  # a pipe in the place of a file keeps nobody waiting
+FULL = {errno.ENOSPC, errno.EDQUOT}  # a disk, or what a user may have of it
+NO_FILE = "is no file, but a folder, a pipe or a device"
+DAYS = "days"  # the folder with the copies of days, which can go
 LINKS = {errno.ELOOP: "is a link, which is not followed", errno.ENOTDIR: "is no folder, or a link to one"}
 
 
@@ -28,6 +31,21 @@ def folder(office: str, *names: str) -> str:
     """The path of the folder beside an office's file, or of what lies in it; a link has the folder of its file."""
     path = os.path.realpath(office)
     return os.path.join(os.path.dirname(path), "desk-" + os.path.basename(path), *names)
+
+
+def room(office: str, fault: OSError) -> str:
+    """Where room can be made, if that is what was lacking."""
+    return f"; make room, for example in {folder(office, DAYS)}" if fault.errno in FULL else ""
+
+
+@contextlib.contextmanager
+def naming(place: str) -> Iterator[None]:
+    """What the system refuses names this place, where it names none."""
+    try:
+        yield
+    except OSError as fault:
+        fault.filename = fault.filename or place
+        raise
 
 
 def user_name(number: int) -> str:
@@ -103,7 +121,7 @@ def strange(found: os.stat_result, flags: int) -> str:
     if found.st_mode & OTHERS:
         return "can be written by others: look what they left, then `chmod go-w` it, or move it away"
     if not flags & os.O_DIRECTORY and not stat.S_ISREG(found.st_mode):
-        return "is no file, but a device or a pipe"
+        return NO_FILE
     return ""
 
 

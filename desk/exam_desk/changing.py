@@ -11,7 +11,6 @@ of a change, and of the copy from before it:
     killed                  the next change says from the log what was broken off, and how to put the copy back
 """
 import contextlib
-import errno
 import functools
 import itertools
 import os
@@ -51,13 +50,8 @@ class Step:
     @functools.cached_property
     def about(self) -> list[str]:
         """What the rows of an import are about; nothing where that is no file with the header of the kind."""
-        if not (values := refusals.imported(self.words)):
-            return []
-        kind, path = values
-        found: Iterator[files.Record] = iter(())
-        with contextlib.suppress(OSError):
-            if self.data is not None or os.path.isfile(path):
-                found = files.records(files.read(path) if self.data is None else self.data)
+        kind, _ = refusals.imported(self.words) or ("", "")
+        found = files.records(self.data or b"")
         return named(kind, (record.fields for record in found)) if files.is_header(kind, next(found, None)) else []
 
 
@@ -212,10 +206,9 @@ def unchanged(office: Office) -> Iterator[None]:
     try:
         yield
     except OSError as fault:
-        place, days = fault.filename or beside.folder(office.path), beside.folder(office.path, copies.DAYS)
-        room = f"; make room, for example in {days}" if fault.errno == errno.ENOSPC else ""
-        raise Trouble(f"no copy of the office can be kept, so nothing is changed: {place}: {fault.strerror}{room}"
-                      ) from fault
+        place = fault.filename or beside.folder(office.path)
+        raise Trouble(f"no copy of the office can be kept, so nothing is changed: {place}: {fault.strerror}"
+                      f"{beside.room(office.path, fault)}") from fault
     except sqlite3.Error as fault:
         raise Trouble(f"{office.path} cannot be read, so nothing is changed: {fault}; `office check` says more"
                       ) from fault
@@ -339,8 +332,11 @@ def make_new(office: Office) -> running.Ran:
             return running.run_over(office, office.path, *NEW.words)
         if os.path.exists(office.path):
             ran = run_patiently(office, NEW, lock)
-            if ran.status == 0:
-                tell_there(office)
+            with contextlib.suppress(Trouble), snapshot.rows(office) as rows:
+                candidates, sessions = rows.execute(HELD).fetchone()
+                if ran.status == 0 and (candidates or sessions):
+                    office.warn(f"NOTE the office is there already, with {lists.count(candidates, 'candidate')} and "
+                                f"{lists.count(sessions, 'session')}: nothing is changed")
             return ran
         aside, held = notebook.set_aside(office)
         try:
@@ -352,12 +348,3 @@ def make_new(office: Office) -> running.Ran:
             elif aside:
                 os.rename(aside, beside.folder(office.path, notebook.PLACE))
     return ran
-
-
-def tell_there(office: Office) -> None:
-    """Says how many an office has that was there before; nothing where that is nobody, or cannot be read."""
-    with contextlib.suppress(Trouble), snapshot.rows(office) as rows:
-        candidates, sessions = rows.execute(HELD).fetchone()
-        if candidates or sessions:
-            office.warn(f"NOTE the office is there already, with {lists.count(candidates, 'candidate')} and "
-                        f"{lists.count(sessions, 'session')}: nothing is changed")

@@ -19,7 +19,7 @@ from exam_desk.words import plain
 MOST_COPIES = 50
 MOST_BYTES = 1 << 30
 MOST_LETTERS, MOST_TITLE = 100, 400  # of a command in the name of a copy, and in its title
-PLACE, DAYS, TITLE = "copies", "days", "title"  # of copies, of those of days, of the command in a copy
+PLACE, TITLE = "copies", "title"  # of copies, of the command in one
 BACK = ("back to ", "undoing ", "redoing ")  # with one begins the title of a copy from before another was put back
 NAME = re.compile(r"(?:([0-9]+) )?([0-9]{4}-[0-9]{2}-[0-9]{2}) ([0-9.]{8,15}) (.*)")  # version 1.0.0 gave no numbers
 DAY = re.compile("[0-9]{4}-[0-9]{2}-[0-9]{2}")
@@ -43,10 +43,10 @@ def named(number: int, what: str) -> str:
 
 def keep_day(office: Office, day: datetime.date, most: int) -> str | None:
     """Copies the office for a day that has no copy; gives its path. The last days stay, and none that is to come."""
-    if os.path.lexists(beside.folder(office.path, DAYS, day.isoformat())):
+    if os.path.lexists(beside.folder(office.path, beside.DAYS, day.isoformat())):
         return None
-    copy = make(office, DAYS, day.isoformat())
-    for old in sorted(folders(office, DAYS, DAY), key=lambda path: (path == copy, path <= copy, path))[:-most]:
+    copy = make(office, beside.DAYS, day.isoformat())
+    for old in sorted(folders(office, beside.DAYS, DAY), key=lambda path: (path == copy, path <= copy, path))[:-most]:
         drop(old)
     return copy
 

@@ -30,8 +30,8 @@ SLIPS = {OVER, PAST, OPENED, SHUT}
 OF_PLACES = [*SLIPS, HALLS, PRINTED]  # kinds of which sessions and halls are counted, and not people
 CODES = ("has another access code", "have other access codes")
 ENTERED_AGAIN = "`office back 1` or `office reinstate ..`, then "  # before who has left can be noted as absent
-LISTED_BY = {PAST: "", OPENED: "", SHUT: "", CLASHES: "clashes {}", TWICE: "summary {}", HALLS: "summary {}",
-             PRINTED: "printed {} --look"}
+LISTED_BY = {CLASHES: ("clashes {}", "look --clashes"), TWICE: ("summary {}", "summary"),  # of one session, and of all
+             HALLS: ("summary {}", "summary"), PRINTED: ("printed {} --look", "printed")}
 GRAVEST = 4  # groups that have a line of their own in a short answer
 MOST_NAMED = 3  # candidates in such a line, or sessions
 COUNTED = [PAST, "gets", "leaves", "joins", "desk"]  # not named where the others are listed with what becomes of them
@@ -175,9 +175,8 @@ def between(before: Reading, after: Reading, at_most: int | None, is_back: bool 
     numbers = [f"session {code}: {lists.count(people, 'candidate')}, {people - seats:,} without a desk"
                + (f" (before: {was[code][0]:,} and {was[code][0] - was[code][1]:,})" if code in was else "")
                for code, (people, seats) in other_figures(before, after).items() if code in effects.touched]
-    others = [*other(before, after, at_most), *other_codes(effects)]
-    return [*map(str, left_behind(before, after)), *(lines(met, at_most) if met or has_seats(before) else []), *others,
-            *numbers, *notes(before, after, met, is_back)]
+    return [*map(str, left_behind(before, after)), *(lines(met, at_most) if met or has_seats(before) else []),
+            *other(before, after, at_most), *other_codes(effects), *numbers, *notes(before, after, met, is_back)]
 
 
 def done(office: Office, copy: str, progress: Progress) -> list[str]:
@@ -195,8 +194,7 @@ def done(office: Office, copy: str, progress: Progress) -> list[str]:
             shown += [] if first else short_yet(before, after, met)
             shown += other(before, after, MOST_NAMED, UNSEEN)
             place = copies.listed(office).index(copy) + 1
-            words = [f"`office {words}` lists them" for words in listing(met, place)]
-            words += [f"`office back {place}` takes it back"] if SLIPS & met.keys() else []
+            words = listing(met, place) + [f"`office back {place}` takes it back"] * bool(SLIPS & met.keys())
             shown += ["; ".join(words)] if words else []
             is_back = copies.when_and_what(copy)[1].startswith(copies.BACK)
             return shown + other_codes(effects) + notes(before, after, met, is_back, ENTERED_AGAIN)
@@ -225,14 +223,14 @@ def groups(effects: Effects) -> Groups:
 
 
 def on_old_paper(halls: Mapping[str, list[str]]) -> list[Met]:
-    return [Met(code, f"for {', '.join(found) or 'no hall'}", f"afterwards `office {LISTED_BY[PRINTED].format(code)}`")
-            for code, found in halls.items()]
+    return [Met(code, f"for {', '.join(found) or 'no hall'}",
+                f"afterwards `office {LISTED_BY[PRINTED][0].format(code)}`") for code, found in halls.items()]
 
 
 def noted(halls: Mapping[str, list[str]]) -> list[str]:
     """As `done`, of the printed papers that something beside the office makes out of date."""
     met = grouped({}, {PRINTED: on_old_paper(halls)})
-    return [*brief(met), *(f"`office {words}` lists them" for words in listing(met, 1))]
+    return brief(met) + listing(met, 1)
 
 
 def notes(before: Reading, after: Reading, met: Groups, is_back: bool, first: str = "") -> list[str]:
@@ -244,11 +242,10 @@ def notes(before: Reading, after: Reading, met: Groups, is_back: bool, first: st
             if not notebook.is_to_come(after.office, days.get(each.session, "9"))]
     noted = {code: notebook.absent(after.office, code) or () for code in {each.session for each in left}}
     gone = [f"{each.person[:7]} of {each.session}" for each in left if each.person[:7] in noted[each.session]]
-    found = [f"NOTE: who only did not come stays entered: {first}`office absent {each.session} {each.person[:7]}` "
-             "notes it" for each in left[:1]]
-    if gone:
-        found.append(f"NOTE: noted as absent, and not in the list for the exam board any more: {few(gone)}")
-    return [*found, *absences_of_another_day(before, after), *([] if is_back else still_open(before, after))]
+    return [*(f"NOTE: who only did not come stays entered: {first}`office absent {each.session} {each.person[:7]}` "
+              "notes it" for each in left[:1]),
+            *([f"NOTE: noted as absent, and not in the list for the exam board any more: {few(gone)}"] if gone else []),
+            *absences_of_another_day(before, after), *([] if is_back else still_open(before, after))]
 
 
 def absences_of_another_day(before: Reading, after: Reading) -> Iterator[str]:
@@ -275,22 +272,19 @@ def still_open(before: Reading, after: Reading) -> list[str]:
 
 def short_at_first(before: Reading, after: Reading) -> list[str]:
     """How many have no desk where nobody had one before, counted by the rows of the sessions that are other ones."""
-    return [] if has_seats(before) else without_a_desk(short(other_figures(before, after)))
+    return [] if has_seats(before) else without_a_desk(other_figures(before, after))
 
 
 def short_yet(before: Reading, after: Reading, met: Groups) -> list[str]:
     """How many have no desk in sessions where they are as many neither as before nor as those of whom it is said."""
-    was = short(figures(before))
+    was = {code: people - seats for code, (people, seats) in figures(before).items()}
     told = Counter(each.session for kind in ("loses", "lacks") for each in met.get(kind, []))
-    return without_a_desk(Counter({code: count for code, count in short(other_figures(before, after)).items()
-                                   if count not in (was[code], told[code])}))
+    return without_a_desk({code: (people, seats) for code, (people, seats) in other_figures(before, after).items()
+                           if people - seats not in (was.get(code, 0), told[code])})
 
 
-def short(sessions: Mapping[str, tuple[int, int]]) -> Counter[str]:
-    return Counter({code: people - seats for code, (people, seats) in sessions.items()})
-
-
-def without_a_desk(counts: Counter[str]) -> list[str]:
+def without_a_desk(sessions: Mapping[str, tuple[int, int]]) -> list[str]:
+    counts = Counter({code: people - seats for code, (people, seats) in sessions.items()})
     return [f"{counts.total():,} without a desk: {most(counts)}"] if counts.total() else []
 
 
@@ -342,11 +336,13 @@ def brief(met: Groups) -> list[str]:
 
 
 def listing(met: Groups, copy: int) -> list[str]:
-    """What lists them, if something does: the changes since a copy where somebody sits otherwise, and the clashes and
-    the overlaps."""
-    words = [f"changes {copy}"] if met.keys() - LISTED_BY.keys() else []
-    words += [LISTED_BY[kind].format(each.session) for kind in met if LISTED_BY.get(kind) for each in met[kind]]
-    return ["; office ".join([*dict.fromkeys(words)][:MOST_NAMED])] if words else []
+    """What lists them, if something does: the changes since a copy where somebody sits otherwise; clashes, overlaps and
+    papers by session, or all together where there are several sessions."""
+    words = [f"changes {copy}"] if met.keys() - LISTED_BY.keys() - {PAST, OPENED, SHUT} else []
+    for kind, (of_one, of_all) in LISTED_BY.items():
+        sessions = dict.fromkeys(each.session for each in met.get(kind, []))
+        words += map(of_one.format, sessions) if len(sessions) < MOST_NAMED else [of_all]
+    return [f"`office {'; office '.join(dict.fromkeys(words))}` lists them"] if words else []
 
 
 def headline(kind: str, met: list[Met]) -> str:

@@ -13,7 +13,7 @@ import re
 from collections.abc import Callable, Collection, Iterable, Iterator
 from typing import TYPE_CHECKING, NamedTuple
 
-from exam_desk import words
+from exam_desk import beside, words
 from exam_desk.trouble import Trouble
 
 if TYPE_CHECKING:
@@ -68,12 +68,10 @@ def put(path: str, text: bytes) -> None:
     except FileExistsError:
         raise Trouble(f"{path} is there already; name another") from None
     try:
-        with open(number, "wb") as file:
+        with beside.naming(path), open(number, "wb") as file:
             file.write(text)
-    except BaseException as fault:
+    except BaseException:
         os.remove(path)
-        if isinstance(fault, OSError):
-            fault.filename = path
         raise
 
 

@@ -9,7 +9,7 @@ from io import FileIO
 from exam_desk import changing, checking, copies, facts, files, lists, logbook, mistakes, refusals, snapshot, turns
 from exam_desk.changing import Answered, Step
 from exam_desk.office import Office
-from exam_desk.trouble import NoCandidate, NoOffice, Trouble
+from exam_desk.trouble import NoCandidate, Trouble
 from exam_desk.typed import candidate_number
 from exam_desk.words import few
 
@@ -23,11 +23,8 @@ Tell = Callable[[int, Answered], None]  # hears what became of the row that begi
 
 
 def rows_of(office: Office, command: str, path: str) -> tuple[Rows, list[str]]:
-    """The rows of a file with the header of entries, and a line for each mistake in it, an unknown number or paper
-    among them. Zeros in front of a number may be missing, which is said. Raises `Trouble` where there is no office or
-    no such file, or no row in it."""
-    if not os.path.isfile(office.path):
-        raise NoOffice(office.path)
+    """The rows of a file with the header of entries, and a line for each mistake in it, such as an unknown number. Zeros
+    in front of a number may be missing, which is said. Raises `Trouble` where there is no such file, or no row in it."""
     try:
         text = files.read(path)
     except OSError as fault:

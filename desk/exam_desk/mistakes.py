@@ -4,6 +4,7 @@ from __future__ import annotations
 import itertools
 import re
 import sqlite3
+import unicodedata
 from collections import Counter, defaultdict
 from collections.abc import Callable, Iterator, Sequence
 from functools import partial
@@ -39,6 +40,7 @@ RIGHT = files.RIGHT
 Places = list[int | None]  # of the columns of a kind in a header
 LOST_ZEROS = re.compile(rb"([0-9]{1,7})(\.(?!000$)0+)?").fullmatch  # 1.000 is a thousand, too
 WRONG_LETTERS = re.compile("Ã.|Â.|â€|Å[\x80-\xbf¡-ÿ€-™]|\ufffd").search  # of another encoding
+NOT_TYPED = re.compile("[\u00a0\u2007\u202f“”„‟‘’‚‛]").findall  # but made by a word processor
 LIKE_A_NUMBER = re.compile(rb"[0-9]+E[0-9]+|[1-9][0-9]?0{4,}").fullmatch
 
 
@@ -188,9 +190,10 @@ def notes_on(column: str, field: bytes) -> list[str]:
     if text.isascii() and text.isprintable() and text == text.strip():
         return []
     looks = [(WRONG_LETTERS(text), "looks like letters that were read in a wrong encoding"),
-             (text != text.strip() or "\u00a0" in text, "has a space at an end, or a hard space"),
+             (text != text.strip(), "has a space at an end"),
+             *((True, f"holds a {unicodedata.name(each).lower()}: is a plain one meant?") for each in NOT_TYPED(text)),
              (words.plain(text) != text, "holds marks that no screen shows")]
-    return [note for is_so, note in looks if is_so]
+    return [*dict.fromkeys(note for is_so, note in looks if is_so)]
 
 
 def looked_through(kind: str, text: bytes, known: Known, most: int = MOST_COUNTED) -> tuple[Found, Found]:

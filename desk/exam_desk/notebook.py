@@ -246,7 +246,7 @@ def write(office: Office, folder: int, name: str, value: object) -> None:
     if value is None:
         return
     file = beside.open_file(office.path, PLACE, new, flags=os.O_WRONLY | os.O_CREAT | os.O_EXCL)
-    with open(file, "wb") as opened:
+    with beside.naming(beside.folder(office.path, PLACE, new)), open(file, "wb") as opened:
         opened.write(json.dumps(value, indent=0).encode("ascii"))
         opened.flush()
         os.fsync(opened.fileno())

@@ -20,7 +20,7 @@ from exam_desk import beside
 
 PLACE, PREFIX, LOCK, NAME = "tmp", "office-copy-", "lock", "office.db"
 ENDINGS = ("", "-wal")  # of the names of the two files
-ELSEWHERE = {errno.EACCES, errno.EPERM, errno.EROFS, errno.ENOSPC, errno.EDQUOT}  # another folder may do
+ELSEWHERE = {errno.EACCES, errno.EPERM, errno.EROFS} | beside.FULL  # another folder may do
 TRIES, PAUSE = 200, 0.02  # seconds from one to the next
 
 

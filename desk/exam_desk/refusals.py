@@ -1,14 +1,14 @@
 """What a refusal of the program means, in words; for an import with the line and the value; for 23 with its cause."""
 import contextlib
-import errno
 import glob
 import os
 import re
+import shutil
 import stat
 import tempfile
 from collections.abc import Sequence
 
-from exam_desk import files, turns
+from exam_desk import beside, files, turns
 from exam_desk.office import Office
 from exam_desk.trouble import NoOffice, Trouble
 from exam_desk.words import plain
@@ -104,19 +104,17 @@ def imported(words: Sequence[str]) -> tuple[str, str] | None:
 
 
 def mistakes_of(office: Office, words: Sequence[str], data: bytes | None, is_done: bool) -> list[str]:
-    """What is wrong with the file of an import, as `office check-files` says it; of one that is done its notes on rows
-    that may do nothing. Nothing where the file has changed since."""
+    """What is wrong with the rows of an import, as `office check-files` says it; of one that is done its notes on rows
+    that may do nothing."""
     kind, path = imported(words) or ("", "")
-    if not kind or is_done and kind not in IDLE:
+    if data is None or is_done and kind not in IDLE:
         return []
     from exam_desk import checking, mistakes  # here, since few commands need them
-    with contextlib.suppress(OSError, Trouble):
-        if data is not None or os.path.isfile(path):
-            text = files.read(path) if data is None else data
-            wrong, notes = mistakes.looked_through(kind, text, checking.office_knows(office), MOST_LINES)
-            name = "" if path == kind and data is not None else os.path.basename(path)
-            lines = [*checking.lines_on(name, *((notes, "NOTE: ") if is_done else (wrong, "")))]
-            return [*lines, NO_CODE] if mistakes.NO_CODE in wrong.counts else lines
+    with contextlib.suppress(Trouble):
+        wrong, notes = mistakes.looked_through(kind, data, checking.office_knows(office), MOST_LINES)
+        name = "" if path == kind else os.path.basename(path)
+        lines = [*checking.lines_on(name, *((notes, "NOTE: ") if is_done else (wrong, "")))]
+        return [*lines, NO_CODE] if mistakes.NO_CODE in wrong.counts else lines
     return []
 
 
@@ -127,34 +125,28 @@ def lasting_cause(office: Office) -> str | None:
     try:
         found = os.stat(path)
     except OSError as fault:
-        return os.path.isdir(place) and no_writing(place) or f"{path}: {fault.strerror}"
-    if stat.S_ISDIR(found.st_mode):
-        return f"{path} is a folder"
+        return no_writing(path, place) or f"{path}: {fault.strerror}"
     if not stat.S_ISREG(found.st_mode):
-        return f"{path} is no file, but a device or a pipe"
+        return f"{path} {beside.NO_FILE}"
     if found.st_nlink > 1:
         return f"{path} has a second name (a hard link, as some backups make): copy the file and take the copy"
     if os.path.lexists(f"{path}-journal"):
         return f"{path}-journal lies beside the file: sqlite3 was stopped in a change; open the file there, or move it"
     for name in (path, path + "-wal"):
         if os.path.exists(name) and not os.access(name, os.R_OK | os.W_OK):
-            return f"no permission to change {name}; it belongs to user {os.stat(name).st_uid}"
-    return no_writing(place) or no_room(place) or damage(path)
+            owner = os.stat(name).st_uid
+            way = f": `chmod u+rw {name}`" * (owner == os.geteuid())
+            return f"no permission to change {name}; it belongs to {beside.user_name(owner)}{way}"
+    return no_writing(path, place) or damage(path)
 
 
-def no_writing(place: str) -> str | None:
-    return None if os.access(place, os.R_OK | os.W_OK | os.X_OK) else f"no permission to write in the folder {place}"
-
-
-def no_room(place: str) -> str | None:
+def no_writing(path: str, place: str) -> str | None:
     try:
         with tempfile.TemporaryFile(dir=place) as file:
             file.write(bytes(1 << 18))
             file.flush()
     except OSError as fault:
-        if fault.errno in (errno.ENOSPC, errno.EDQUOT):
-            return f"the disk is full ({place})"
-        return f"nothing can be written in the folder {place}: {fault.strerror}"
+        return f"nothing can be written in the folder {place}: {fault.strerror}{beside.room(path, fault)}"
     return None
 
 
@@ -192,10 +184,10 @@ def cause(office: Office) -> str:
     """Why the database cannot be used, as far as it can be found out."""
     found = holder(office)
     if found is None:
-        return lasting_cause(office) or "no cause is to be seen now"
+        free = shutil.disk_usage(os.path.dirname(os.path.realpath(office.path))).free >> 10
+        return lasting_cause(office) or f"no cause is to be seen now; its disk has {free:,} KiB free"
     process, words = found
-    state = turns.keep_state(office)
-    if state and state.get("serve") == process:
+    if (turns.keep_state(office) or {}).get("serve") == process:
         return f"`keep` serves it (process {process})"
     if "serve" in words:
         return f"a `serve` has it (process {process}): stop it, or let `office keep` serve"

@@ -1,7 +1,6 @@
 """What could help a session that is short of desks: halls that are open in another way, or are not open. All of it is a
 guess, since only the program says what an opening comes to: `what-if`, or a button, has it rehearse each."""
 import operator
-import sqlite3
 from collections import Counter
 from collections.abc import Iterator
 from statistics import mode
@@ -29,7 +28,8 @@ class Remedy(NamedTuple):
     seats: int
     opening: Opening
     now: Opening | None
-    held: str = ""  # a session that has the hall then, where it is not open
+    is_more: bool = False  # than the hall has in any session
+    held: str = ""  # the first session that has the hall then, where it is not open
 
     def asks(self) -> int:
         """For how much: more desks, or another hall, count twice."""
@@ -46,29 +46,26 @@ class Alike(NamedTuple):
 
 def best(rows: Rows, why: Reasons, sheet: Shortage) -> list[Remedy]:
     """The first of them, of each hall one for as many seats: halls that are free then before those of other sessions;
-    of these those for most, and what asks for least. None where the halls and the candidates on the sheet are too
-    many."""
+    more desks than a hall ever had last, where nothing else seats as many; of these those for most, and what asks for
+    least. None where the halls and the candidates on the sheet are too many."""
     found: dict[tuple[int, str], Remedy] = {}
     [halls] = rows.execute("SELECT count(*) FROM hall").fetchone()
     if halls * len(sheet.candidates) > MOST_PAIRS:
         return []
     others = rows.execute(HELD, [why.session]).fetchall()
-    options = [each._replace(held=holder(others, each)) for each in remedies(rows, why, sheet)]
-    for each in sorted(options, key=lambda each: (each.held != "", -each.seats, each.asks())):
-        found.setdefault((each.seats, each.opening.hall), each)
+    options = [each._replace(held=next((code for hall, code, begins in others if hall == each.opening.hall
+                                        and begins < each.opening.until and not each.now), ""))
+               for each in remedies(rows, why, sheet)]
+    most = max((each.seats for each in options if not each.is_more and not each.held), default=0)
+    for each in sorted(options, key=lambda each: (each.is_more, each.held != "", -each.seats, each.asks())):
+        if not each.is_more or each.seats > most:
+            found.setdefault((each.seats, each.opening.hall), each)
     return [*found.values()][:MOST]
 
 
-def holder(others: list[sqlite3.Row], remedy: Remedy) -> str:
-    """The first session that has the hall of a remedy at that time; "" where the hall is free, or open already."""
-    wanted = remedy.opening
-    return next((code for hall, code, begins in others
-                 if hall == wanted.hall and begins < wanted.until and not remedy.now), "")
-
-
 def remedies(rows: Rows, why: Reasons, sheet: Shortage) -> Iterator[Remedy]:
-    """With the desks that are free, and with as many as are short. A closed hall has no more than it has in another
-    session. A hall is open no longer than is needed; a closed one until most open halls are, where that is later."""
+    """With the desks that are free, with as many as the hall has in any session, and, of an open one, as are short. It
+    is open no longer than is needed; a closed one until most open halls are, where that is later."""
     listed, opened = set(sheet.candidates), {each.hall: each for each in why.openings}
     people = [(member, frozenset(each.hall for each in why.openings if not why.obstacles(member, each)))
               for member in sorted(why.members, key=lambda each: bool(each.sitting.hall)) if member.number in listed]
@@ -82,10 +79,11 @@ def remedies(rows: Rows, why: Reasons, sheet: Shortage) -> Iterator[Remedy]:
             ends = Moves(code, Counter(
                 Alike(0 if why.obstacles(member, widest) else of_day(member.sitting.finish), halls, member.sitting.hall)
                 for member, halls in people)).ends()
-            free = base.desks - taken if now else most.get(code, len(ends))
-            for seats in {len(ends[:free]), len(ends) if now else 0} - {0}:
-                yield Remedy(seats, base._replace(until=max(base.until, ends[seats - 1]), reserved=reserved,
-                                                  desks=max(base.desks, taken + seats)), now)
+            room = [base.desks - taken, most[code] - taken, len(ends)] if now else [most.get(code, len(ends))]
+            for seats in {len(ends[:free]) for free in room} - {0}:
+                then = base._replace(until=max(base.until, ends[seats - 1]), reserved=reserved,
+                                     desks=max(base.desks, taken + seats))
+                yield Remedy(seats, then, now, now is not None and then.desks > most[code])
 
 
 class Moves:
@@ -127,8 +125,9 @@ def lines(rows: Rows, why: Reasons, sheet: Shortage) -> list[str]:
     """What no hall has, and the remedies as commands to try; nothing where everybody has a desk."""
     found = [f"  office what-if open-hall {why.session} {then.hall} {then.desks} {clock(then.until)}"
              f"{' --reserved' * then.reserved}  # could seat {seats} of {sheet.unseated}; now {shown(now)}"
-             f"{f'; {held} has it then' * (held != '')}"
-             for seats, then, now, held in (best(rows, why, sheet) if sheet.unseated else [])]
+             f"{f', then no longer' * (now is not None and now.reserved and not then.reserved)}"
+             f"{'; more desks than it ever had' * is_more}{f'; {held} has it then' * (held != '')}"
+             for seats, then, now, is_more, held in (best(rows, why, sheet) if sheet.unseated else [])]
     return [*(f"no hall of the office has all of {', '.join(needs)}: needed by {count(people, 'candidate')}"
               for needs, people in lacking(rows, why).items()),
             *(["what could help; only the program knows what it comes to, so try it:"] if found else []), *found]

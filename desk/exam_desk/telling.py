@@ -189,7 +189,10 @@ def differences(before: Reading, after: Reading, asked: Collection[str] = ()) ->
         if code not in sessions:
             raise Trouble(f"there is no session {code}; the office has {few(sessions, 20)}")
     found = touched(before, after, with_past=True)
-    return of_touched(before, after, {code: found[code] for code in found if not asked or code in asked}, True)
+    changes = of_touched(before, after, {code: found[code] for code in found if not asked or code in asked}, True)
+    if not changes:  # a row that meets nobody may be one that no office has: asked of somebody, the program says so
+        after.ask(map(after.person, [*facts.candidate_names(after.rows)][:1]))
+    return changes
 
 
 def of_touched(before: Reading, after: Reading, sessions: Touched, with_clashes: bool = False) -> list[Change]:

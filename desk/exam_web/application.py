@@ -1,5 +1,4 @@
 """The application: its screens, what all pages have, and faults in words."""
-import errno
 import os
 import sqlite3
 from typing import Any
@@ -11,7 +10,7 @@ from werkzeug.exceptions import HTTPException
 from werkzeug.routing import IntegerConverter
 from werkzeug.wrappers import Response
 
-from exam_desk import appeals
+from exam_desk import appeals, beside
 from exam_desk.telling import people_and_sittings
 from exam_desk.trouble import Trouble
 from exam_desk.words import FEATURES
@@ -28,7 +27,6 @@ PROBLEMS = {
     405: "This address takes no such request. Nothing was done.",
     413: "The upload is larger than 32 MB. Nothing was taken.",
 }
-NO_ROOM = {errno.ENOSPC, errno.EDQUOT}
 FIRST = {*guard.OPEN, "entering.leave", "season.page", "season.init", "files.template", "office.page", "office.bring",
          "office.copy", "office.back", "office.handbook"}  # what can be asked where there is no office
 
@@ -101,9 +99,9 @@ def problem(fault: Exception) -> ResponseReturnValue:
             return (guard.page("visit"), 401) if request.method == "POST" else redirect(url_for("entering.page"))
         status = fault.code or 500
         said = text(PROBLEMS[fault.code]) if fault.code in PROBLEMS else escape(fault.description)
-    elif isinstance(fault, OSError) and fault.errno in NO_ROOM:
+    elif isinstance(fault, OSError) and fault.errno in beside.FULL:
         said = text("The disk is full: make room, for example in the folder {place}, and try again.",
-                    place=str(fault.filename or "desk-office.db/days"))
+                    place=beside.folder(desk().office.path, beside.DAYS))
     elif isinstance(fault, OSError) and fault.filename:
         said = wording.shown(f"{fault.filename}: {fault.strerror}")
     if not g.get("visit"):  # a stranger sees no page

@@ -267,7 +267,7 @@ class Words(unittest.TestCase):
 
     def test_notes_for_a_human_eye(self):
         text = ("number,name,code\n0000001,FranÃ§ois,CODE0001\n0000002,Bo Berg,CODE0002\n0000003,Bo Berg,CODE0002\n"
-                "0000002,Bo Berg,CODE0002\n0000004,Di,10000000000\n").encode()
+                "0000002,Bo Berg,CODE0002\n0000004,Di,10000000000\n0000005, Di\u00a0“O”,CODE0005\n").encode()
         found, notes = self.mistakes_in("candidates", text)
         self.assertEqual(found, [])
         self.assertEqual(notes, [
@@ -275,7 +275,10 @@ class Words(unittest.TestCase):
             "the same access code as 0000003, and the same name: one candidate under two numbers?",
             "the same access code as 0000002, and the same name: one candidate under two numbers?",
             "the same as line 3; it counts once",
-            "may be what a spreadsheet made of a code such as 1E5, or will make of it"])
+            "may be what a spreadsheet made of a code such as 1E5, or will make of it",
+            "has a space at an end", "holds a left double quotation mark: is a plain one meant?",
+            "holds a no-break space: is a plain one meant?",
+            "holds a right double quotation mark: is a plain one meant?"])
 
     def test_one_access_code_for_all(self):
         """As where a spreadsheet filled it down: a note on each, and no row is compared with each other one."""

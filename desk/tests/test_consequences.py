@@ -156,6 +156,14 @@ class Told(sample.SampleSchool):
         self.assertIn("1 has a new clash\n  MON-AM 0001306 Sami Nagy: does not sit MA-2\n",
                       self.office("what-if", "back", "2"))
 
+    def test_what_lists_those_of_many_sessions(self):
+        """Of two sessions each has its own command; from three on one lists all."""
+        met = {"clashes": [effects.Met(code, "0001000 Ada Lin", "") for code in ("S1", "S2", "S2")]}
+        self.assertEqual(effects.listing(met, 1), ["`office clashes S1; office clashes S2` lists them"])
+        met["clashes"].append(effects.Met("S3", "0001000 Ada Lin", ""))
+        self.assertEqual(effects.listing({**met, "printed": met["clashes"], "moves": []}, 2),
+                         ["`office changes 2; office look --clashes; office printed` lists them"])
+
     def test_who_is_not_touched_is_not_spoken_of(self):
         same = str(self.examples / "entries.csv")
         hall = self.write("h.csv", "hall,title,features\nXX,Cellar,-\n")

@@ -124,8 +124,10 @@ class Kept(sample.KeptSchool):
         self.assertEqual(self.stored(), [("HA1", 1)])
 
     def test_command_killed(self):
-        process = subprocess.Popen([sample.DESK / "office", "import", "entries", "/dev/stdin"], env=self.environment,
-                                   stdin=subprocess.PIPE, stderr=subprocess.DEVNULL)
+        program = self.write("program", "#!/bin/sh\nexec cat\n")  # until the input is closed
+        os.chmod(program, 0o700)
+        process = subprocess.Popen([sample.DESK / "office", "withdraw", "0001000", "MA-1"], stdin=subprocess.PIPE,
+                                   env={**self.environment, "EXAMOFFICE": program}, stderr=subprocess.DEVNULL)
         sample.until(lambda: self.state().get("state") == "aside")
         process.kill()
         process.communicate()

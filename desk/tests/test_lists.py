@@ -65,6 +65,8 @@ class Lists(sample.SampleSchool):
     def test_changes(self):
         before = self.copy()
         self.assertEqual(self.office("changes", before), "nothing changed\n")
+        for place in ("none", self.folder):
+            self.assertIn("there is no copy and no file", self.refused("changes", os.path.join(place, "none")))
         self.office("withdraw", "0001306", "LAT")
         lines = self.office("changes", before).split("\n")
         self.assertEqual(lines[-2:], ["1 to tell, 13 with another desk only", ""])
@@ -81,6 +83,12 @@ class Lists(sample.SampleSchool):
         self.office("withdraw", "0001748", "MA-1")
         self.assertIn("! MON-AM 0001748 Tomas Costa: left: MA-1, 2027-06-07 09:00 to 11:12, R12 desk 2\n",
                       self.office("changes", before))
+
+    def test_changes_of_rows_that_no_office_has(self):
+        """Fewer desks than sit in the hall: no candidate has another row, so nobody would be asked of."""
+        before = self.copy()
+        self.change("UPDATE opening SET desks = 5 WHERE session = 'MON-AM' AND hall = 'GYM'")
+        self.assertIn("there are rows that no office has (table seat)", self.refused("changes", before))
 
     def test_changes_as_csv(self):
         before = self.copy()

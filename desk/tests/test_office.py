@@ -19,10 +19,14 @@ from exam_desk import copies, refusals
 
 class Faults(unittest.TestCase):
     def test_who_may_not_read_is_named(self):
+        """Where room can be made is said of what lies beside the office; another file may be on another disk."""
+        note, days = (os.path.realpath(f"desk-office.db/{name}") for name in ("notebook/notes.json.new", "days"))
         for fault, said in ((PermissionError(13, "Denied", "c.csv"), "c.csv: Denied to the user ada"),
+                            (OSError(28, "No room", note), f"{note}: No room; make room, for example in {days}"),
+                            (OSError(28, "No room", "/mnt/c.csv"), "/mnt/c.csv: No room"),
                             (FileNotFoundError(2, "No such file", "c.csv"), "c.csv: No such file")):
             with mock.patch("exam_desk.beside.user_name", return_value="ada"), \
-                    redirect_stderr(io.StringIO()) as out:
+                    mock.patch.dict(os.environ, OFFICE="office.db"), redirect_stderr(io.StringIO()) as out:
                 command.tell(type(fault), fault, None)
             self.assertEqual(out.getvalue(), f"office: {said}\n")
 
@@ -56,6 +60,20 @@ class Words(sample.SampleSchool):
     def test_a_file_that_is_not_there_is_named_with_its_folder(self):
         self.assertEqual(self.refused("import", "entries", "none.csv").split("\n")[::2],
                          ["file fault", f"  it was looked for as {os.path.join(self.folder, 'none.csv')}"])
+
+    def test_rows_from_a_pipe(self):
+        """Those of standard input are whole before the office is taken; a pipe to which nobody writes keeps nobody
+        waiting, and the log says nothing of it."""
+        pipe = os.path.join(self.folder, "rows")
+        os.mkfifo(pipe)
+        for path in (pipe, self.folder):
+            for words in (["import", "entries", path], ["what-if", "import", "--", "entries", path]):
+                self.assertIn(f"office: {path}: is no file, but a folder, a pipe", self.refused(*words))
+        self.assertFalse(os.path.exists(os.path.join(self.desk, "log")))
+        self.assertEqual(self.office("import", "entries", "/dev/stdin", stdin="number,paper\n0001000,MA-1\n"),
+                         "added 0 changed 0 same 1\n")
+        self.assertIn("  stdin line 2: number '1000': leading zeros lost?",
+                      self.refused("import", "entries", "/dev/stdin", stdin="number,paper\n1000,MA-1\n"))
 
     def test_what_is_wrong_with_a_row(self):
         for row, text in [("0001000,A,B,WK3DEGZDPC", "4 in place of 3 fields; put a value with a comma in double quotes"),
@@ -136,6 +154,7 @@ class Words(sample.SampleSchool):
                             (["lodge", "1051x", "mon-am"], "number '1051x': seven digits; session 'mon-am': write MON-AM (1 "
                              "to 12 of A-Z, 0-9 and -); kind of appeal is missing"),
                             (["lodge", "0001051", "MON-AM", "hall", "PC1"], "reason is missing"),
+                            (["lodge", "0001051", "arrangement", "quiet", "0", "x"], "session is missing\n"),
                             (["lodge", "0001051", "MON-AM", "arrangement", "-", "30%", "x"], "extra '30%': write 30")):
             done = self.run_office(*words)
             self.assertEqual((done.returncode, done.stdout), (2, ""), words)
@@ -238,16 +257,29 @@ class Causes(sample.SampleSchool):
         os.link(self.path, os.path.join(self.folder, "other.db"))
         self.assertIn("has a second name", self.cause())
 
+    def test_a_file_that_one_may_not_change(self):
+        """The user to whom it belongs can give the permission."""
+        with mock.patch("os.access", return_value=False), mock.patch("exam_desk.beside.user_name", return_value="ada"):
+            for user, cure in ((os.getuid(), f": `chmod u+rw {self.path}`"), (os.getuid() + 1, "")):
+                with mock.patch("os.geteuid", return_value=user):
+                    self.assertEqual(refusals.lasting_cause(self.value),
+                                     f"no permission to change {self.path}; it belongs to ada{cure}")
+
+    def test_without_a_cause_the_room_of_the_disk_is_said(self):
+        """The copy from before the change is gone by then, and its room is free again."""
+        with mock.patch("shutil.disk_usage", return_value=mock.Mock(free=300 << 10)):
+            self.assertEqual(refusals.cause(self.value), "no cause is to be seen now; its disk has 300 KiB free")
+
     def test_a_folder_in_which_one_may_not_write(self):
         for path in (os.path.join(self.folder, "new.db"), self.path):
-            with mock.patch("os.access", lambda name, _: os.path.isfile(name)):
-                self.assertEqual(refusals.lasting_cause(replace(self.value, path=path)),
-                                 f"no permission to write in the folder {os.path.realpath(self.folder)}")
+            with mock.patch("tempfile.TemporaryFile", side_effect=PermissionError(13, "Permission denied")):
+                self.assertEqual(refusals.lasting_cause(replace(self.value, path=path)), "nothing can be written in the "
+                                 f"folder {os.path.realpath(self.folder)}: Permission denied")
 
     def test_a_folder_and_a_pipe(self):
         pipe = os.path.join(self.folder, "pipe.db")
         os.mkfifo(pipe)
-        for path, text in [(self.folder, "is a folder"), (pipe, "is no file")]:
+        for path, text in [(self.folder, "is no file, but a folder"), (pipe, "is no file")]:
             for words in (["check"], ["shortage", "MON-AM"], ["withdraw", "0001000", "MA-1"]):
                 self.assertIn(text, self.refused(*words, OFFICE=path))
         self.assertIn("is no file", self.refused("why", "MON-AM", OFFICE=pipe))
@@ -358,6 +390,10 @@ class Back(sample.SampleSchool):
         self.office("back", "1", "--yes")
         self.assertFalse(os.path.exists(self.path + "-wal"))
         self.assertEqual(self.office("check"), "good\n")
+        os.remove(self.path + "-wal")  # as `back` leaves it, so the copies of the desk have no second file either
+        for copy in (copies.keep_copy(self.value, "x"), copies.keep_day(self.value, self.value.today(), 1)):
+            self.assertFalse(os.path.exists(f"{copy}/office.db-wal"))
+            self.assertEqual(self.office("check", OFFICE=f"{copy}/office.db"), "good\n")
 
     def test_a_copy_of_an_earlier_version_is_put_back(self):
         with closing(sqlite3.connect(self.path)) as file:
@@ -402,15 +438,17 @@ class Back(sample.SampleSchool):
         self.assertEqual(self.office("check"), "good\n")
 
     def test_a_killed_command_leaves_no_lock(self):
-        process = subprocess.Popen([sample.DESK / "office", "import", "entries", "/dev/stdin"], env=self.environment,
-                                   stdin=subprocess.PIPE, stderr=subprocess.DEVNULL)
-        sample.until(lambda: os.path.exists(os.path.join(self.desk, "log")))
-        process.kill()
-        process.communicate()
+        line = [sample.DESK / "office", "import", "entries", self.write("late.csv", "number,paper\n0001000,FR\n")]
+        with closing(sqlite3.connect(self.path)) as file:
+            file.execute("BEGIN IMMEDIATE")  # so the command waits in its turn
+            with subprocess.Popen(line, env=self.environment, stderr=subprocess.DEVNULL) as process:
+                sample.until(lambda: os.path.exists(os.path.join(self.desk, "log")))
+                process.kill()
+            file.rollback()
         done = self.run_office("withdraw", "0001000", "MA-1")
         self.assertEqual((done.stdout, done.returncode), ("withdrawn\n", 0))
-        self.assertRegex(done.stderr, "^office: `import entries /dev/stdin` of .* was broken off; nothing of it "
-                                      "is left\n1 leaves a session: ")
+        self.assertRegex(done.stderr, "^office: `import entries .*/late.csv for 0001000 FR` of .* was broken off; "
+                                      "nothing of it is left\n1 leaves a session: ")
         self.assertEqual(self.office("reinstate", "0001000", "MA-1"), "reinstated\n")
 
 

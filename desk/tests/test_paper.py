@@ -141,8 +141,12 @@ class Papers(sample.SampleSchool):
         for part in ("<p><bdi>Hill &lt;School&gt;</bdi><br>Tuesday, 8 June 2027, starts",
                      "48 candidates: 46 seated, 2 without a desk.", "4 candidates = 2 desks + 2 unseated",
                      "Each of these 4 candidates can sit only in LIB, which has 2 desks.",
+                     "What would help: more desks there, or another hall that suits some of them.<",
                      self.office("why", "TUE-AM").partition("what could help")[0]):
             self.assertIn(part, text)
+        self.office("open-hall", "TUE-AM", "LIB", "2", "10:00")
+        self.assertIn("What would help: another hall that suits some of them, or a hall open for longer.<",
+                      self.office("session-page", "TUE-AM"))
         self.assertIn("no session XX", self.refused("session-page", "XX"))
         drawn = []
         for most in (4, 3):  # four are on the sheet: two sit in LIB, and two have no desk

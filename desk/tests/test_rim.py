@@ -163,7 +163,8 @@ class Closed(sample.SampleSchool):
     def test_what_has_no_room_beside_the_office_is_not_the_output(self):
         line = ["sh", "-c", 'ulimit -f 0; exec "$@"', "sh", sample.DESK / "office", "school", "Hill School"]
         done = subprocess.run(line, env=self.environment, capture_output=True, encoding="utf-8", check=False)
-        self.assertEqual((done.returncode, done.stderr), (1, "office: File too large\n"))
+        place = os.path.join(os.path.realpath(self.desk), "notebook", "school.json.new")
+        self.assertEqual((done.returncode, done.stderr), (1, f"office: {place}: File too large\n"))
 
     def test_a_page_that_finds_no_room(self):
         with open("/dev/full", "w", encoding="utf-8") as full:

@@ -23,7 +23,7 @@ NONE = Markup("<p>None.</p>")
 BAR = "<svg class=bar viewBox='0 0 100 10' preserveAspectRatio=none role=img aria-label='{}'>{}</svg>"
 CARD = "<div class='card {}'><h3>{}</h3>{}</div>"
 EXPLANATION = ("<p>{} So every plan leaves at least {:,} of them without a desk, and no other plan seats more "
-               "candidates than this one.</p><p>What would help: {}another hall that suits some of them.</p>")
+               "candidates than this one.</p><p>What would help: {}another hall that suits some of them{}.</p>")
 
 Part = tuple[str, int]  # of a bar: its kind and its length
 
@@ -108,7 +108,9 @@ class Page:
         if halls:
             reason = (f"Each of these {people:,} candidates can sit only in {few(halls)}, which "
                       f"{'has' if len(halls) == 1 else 'have'} {count(self.shortage.desks, 'desk')}.")
-        return html(EXPLANATION, reason, self.shortage.unseated, "more desks there, or " if halls else "")
+        is_early = any(reasons.CLOSES in why for who in self.unseated for _, why in self.reasons.of(who))
+        return html(EXPLANATION, reason, self.shortage.unseated, "more desks there, or " if halls else "",
+                    ", or a hall open for longer" * is_early)
 
     def balance(self) -> Markup:
         """Candidates, desks and unseated as three bars of one scale."""
