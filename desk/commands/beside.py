@@ -12,11 +12,11 @@ if TYPE_CHECKING:
     from argparse import ArgumentParser
     from collections.abc import Mapping
 
-    from exam_desk.on_paper import Line, Move
+    from exam_desk.on_paper import Line, Move, Papers
     from exam_desk.reading import Reading
 
 MOST_BYTES = 1 << 16  # of numbers on standard input
-OF_HALLS, WHOLE = "sheet, poster, cards, chart of {}", "board, counts, slips"
+MOST_SLIPS = 5  # whose numbers a line names
 
 
 @command.named("""Notes who was missing in a session, and lists it for the exam board: absent SESSION [NUMBER .. | -]
@@ -94,10 +94,10 @@ def notes(parser: ArgumentParser) -> None:
     tell_papers(on_paper.with_other_notes(office, texts_given))
 
 
-def tell_papers(halls: Mapping[str, list[str]]) -> None:
+def tell_papers(papers: Mapping[str, Papers]) -> None:
     """Says on standard error which printed papers are out of date, by session."""
     from exam_desk import consequences
-    for line in consequences.noted(halls):
+    for line in consequences.noted(papers):
         print(line, file=sys.stderr)
 
 
@@ -133,18 +133,20 @@ def of_each(reading: Reading) -> list[str]:
 
 
 def compared(reading: Reading, session: str) -> list[str]:
-    """Who is not as on paper, and the halls whose paper is out of date."""
+    """Who is not as on paper, and which papers are out of date, of which halls."""
     from exam_desk import on_paper
     found = on_paper.compared(reading, session)
     if found is None:
         raise Trouble(f"nobody noted which desks are printed for {session}; `office printed {session}` does")
     if found.holds():
         return ["the papers are up to date"]
-    halls, empty = ", ".join(hall for hall in found.halls if hall not in found.empty), ", ".join(found.empty)
-    again = "; ".join([*([OF_HALLS.format(halls)] if halls else []), WHOLE])
     shared = (f"{what} {old or '-'} -> {new or '-'}" for what, old, new in found.others)
+    again, slips = on_paper.in_words(found.again), found.slips()
+    if 0 < len(slips) <= MOST_SLIPS:
+        again += f" (`office slips {session} --desks --only {' --only '.join(slips)}`)"
+    empty = on_paper.in_words(dict.fromkeys(on_paper.BY_HALL, found.empty)) if found.empty else ""
     return [*shared, *map(otherwise, found.moves), f"to print again: {again}",
-            *([f"to take away, as nobody sits there now: {OF_HALLS.format(empty)}"] if empty else [])]
+            *([f"to take away, as nobody sits there now: {empty}"] if empty else [])]
 
 
 def otherwise(move: Move) -> str:

@@ -6,7 +6,7 @@ from collections import Counter, defaultdict
 from collections.abc import Iterable, Iterator, Mapping
 from typing import NamedTuple
 
-from exam_desk import copies, facts, lists, notebook, telling
+from exam_desk import copies, facts, lists, notebook, on_paper, telling
 from exam_desk.asking import Progress
 from exam_desk.effects import Effects, figures, has_seats, openings, other_figures
 from exam_desk.left_behind import left_behind
@@ -27,8 +27,7 @@ KINDS = {  # what may be a slip, who has no desk, what no rule of the office for
     CLASHES: ("has a new clash", "have new clashes"),
     TWICE: ("is in two sessions at one time", "are in two sessions at one time"),
     HALLS: ("hall has candidates of two sessions at one time", "halls have candidates of two sessions at one time"),
-    PRINTED: ("session has printed papers that are out of date (board, counts, slips too)",
-              "sessions have printed papers that are out of date (board, counts, slips too)"),
+    PRINTED: ("session has printed papers that are out of date", "sessions have printed papers that are out of date"),
     **telling.KINDS,
 }
 UNSEEN = ["arrangements", "openings"]  # kinds of rows of which a value can go and nobody sits otherwise
@@ -114,14 +113,14 @@ def groups(effects: Effects) -> Groups:
         PRINTED: out_of_date(effects.out_of_date)})
 
 
-def out_of_date(halls: Mapping[str, list[str]]) -> list[Met]:
-    return [Met(code, f"for {', '.join(found) or 'no hall'}", f"afterwards `office {LISTED_BY[PRINTED].format(code)}`")
-            for code, found in halls.items()]
+def out_of_date(papers: Mapping[str, on_paper.Papers]) -> list[Met]:
+    return [Met(code, f"({on_paper.in_words(found)})", f"afterwards `office {LISTED_BY[PRINTED].format(code)}`")
+            for code, found in papers.items()]
 
 
-def noted(halls: Mapping[str, list[str]]) -> list[str]:
+def noted(papers: Mapping[str, on_paper.Papers]) -> list[str]:
     """As `done`, of the printed papers that something beside the office makes out of date."""
-    met = grouped({}, {PRINTED: out_of_date(halls)})
+    met = grouped({}, {PRINTED: out_of_date(papers)})
     return [*brief(met), *(f"`office {words}` lists them" for words in listing(met, 1))]
 
 

@@ -72,27 +72,26 @@ def shut(before: Reading, after: Reading) -> list[sqlite3.Row]:
     return [row for key, row in openings(after).items() if row["until"] <= row["start"] and was.get(key) != row]
 
 
-def out_of_date(before: Reading, after: Reading, sessions: Touched) -> dict[str, list[str]]:
-    """By session the halls whose papers are noted as printed and hold no longer, of those whom a change can meet; no
-    hall where it meets people without a desk alone."""
-    found = {code: halls_out_of_date(before, after, code, people) for code, people in sessions.items()}
-    return {code: sorted(halls - {""}) for code, halls in found.items() if halls}
+def out_of_date(before: Reading, after: Reading, sessions: Touched) -> dict[str, on_paper.Papers]:
+    """By session the papers that are noted as printed and hold no longer, of those whom a change can meet."""
+    found = {code: papers_out_of_date(before, after, code, people) for code, people in sessions.items()}
+    return {code: papers for code, papers in found.items() if papers}
 
 
-def halls_out_of_date(before: Reading, after: Reading, session: str, people: Collection[str] | None) -> set[str]:
-    """The halls of those of these people, or of all, who are otherwise than before and not as on paper, now and there,
-    and those with what lines share and is another; "" for who has no desk."""
+def papers_out_of_date(before: Reading, after: Reading, session: str, people: Collection[str] | None
+                       ) -> on_paper.Papers:
+    """The papers that show those of these people, or of all, who are otherwise than before and not as on paper, or
+    what lines share and is another."""
     paper = on_paper.noted(after.office, session)
     if not paper.lines:
-        return set()
+        return {}
     asked = [(reading, telling.entered(reading, session, people)) for reading in (before, after)]
     then, now = (on_paper.lines_of(reading, session, reading.members(session, numbers)) for reading, numbers in asked)
-    lines = (line for number in on_paper.moved(then, now) if paper.lines.get(number) != now.get(number)
-             for line in (paper.lines.get(number), now.get(number)))
+    moves = [on_paper.Move(number, "", paper.lines.get(number), now.get(number))
+             for number in on_paper.moved(then, now) if paper.lines.get(number) != now.get(number)]
     was, shared = (on_paper.shared(reading, session) for reading in (before, after))
     others = (what for what, *_ in on_paper.others(paper.shared, shared) if was.get(what) != shared[what])
-    halls = (on_paper.halls_with(what, paper.lines) for what in others)
-    return {line.desk.hall for line in lines if line}.union(*halls)
+    return on_paper.out_of_date(moves, others, paper.lines)
 
 
 def new_clashes(before: Reading, after: Reading, sessions: Touched) -> Iterator[tuple[str, Person, list[str]]]:

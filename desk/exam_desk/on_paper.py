@@ -2,6 +2,7 @@
 from __future__ import annotations
 
 import datetime
+import itertools
 from collections.abc import Iterable, Mapping
 from typing import TYPE_CHECKING, Any, NamedTuple
 
@@ -15,6 +16,15 @@ NOTED = "noted"  # beside the lines of what is printed: by whom, how many, and w
 SHOWN = ["name", "paper", "date", "start", "finish", "needs", "extra", "misses", "note"]
 SCHOOL, OF = "school", ": "  # where others have a code; between a code and what is shown of it
 OF_SCHOOL, OF_ROWS = f"{SCHOOL}{OF}name", f"{{}}{OF}rows"  # what lines share of the school, and of a hall
+ALL = "doors poster cards chart board counts slips"  # papers, by the commands that print them
+BY_HALL = ALL.split()[:4]
+ON = {  # which papers show what
+    "hall": ALL, "left": "doors poster cards chart board counts", "desk": "doors poster cards chart board slips",
+    "name": "doors poster cards chart board slips", "paper": "doors cards chart counts slips", "date": ALL,
+    "start": ALL, "finish": "doors counts slips", "needs": "doors slips", "extra": "doors slips",
+    "misses": "doors slips", "note": "doors slips", "paper title": "doors cards counts slips", "hall title": ALL,
+    "desks": "doors chart", "open until": "doors", "rows": "chart", OF_SCHOOL: "doors poster chart board counts slips"}
+Papers = dict[str, list[str]]  # which are out of date, each with its halls; none where it is of the whole session
 
 
 class Desk(NamedTuple):
@@ -42,6 +52,13 @@ class Move(NamedTuple):
             return []
         return [each for each in zip(SHOWN, self.printed.shown, self.now.shown) if each[1] != each[2]]
 
+    def kinds(self) -> set[str]:
+        """What is another, as ON has it."""
+        if not (self.printed and self.now):
+            return {"hall" if self.now else "left"}
+        desks = zip(Desk._fields, self.printed.desk, self.now.desk)
+        return {what for what, was, now in [*desks, *self.others()] if was != now}
+
 
 class Paper(NamedTuple):
     """What was printed for a session."""
@@ -55,11 +72,18 @@ class Compared(NamedTuple):
     paper: Paper
     moves: list[Move]  # by number
     others: list[tuple[str, str, str]]  # what lines share and is another: what, its value on paper, and now
+    again: Papers  # to print again
     halls: list[str]  # whose papers are out of date, by code
     empty: list[str]  # of these, where nobody sits now
 
     def holds(self) -> bool:
         return not (self.moves or self.others)
+
+    def slips(self) -> list[str]:
+        """The numbers of those whose slips alone are out of date; none where all are, or no slip is."""
+        if any("slips" in shown_on(what) for what, *_ in self.others):
+            return []
+        return [move.number for move in self.moves if any("slips" in ON[kind] for kind in move.kinds())]
 
 
 def noted(office: Office, session: str) -> Paper:
@@ -104,6 +128,34 @@ def halls_with(what: str, lines: Mapping[str, Line]) -> set[str]:
     return {line.desk.hall for line in lines.values() if code in (SCHOOL, line.desk.hall, line.shown[1])}
 
 
+def shown_on(what: str) -> list[str]:
+    """The papers that show something that lines share."""
+    return ON[what if what in ON else what.partition(OF)[2]].split()
+
+
+def out_of_date(moves: Iterable[Move], others: Iterable[str], lines: Mapping[str, Line]) -> Papers:
+    """The papers that show of somebody, or of what lines share, what is another, each with its halls."""
+    met = {(paper, line.desk.hall) for move in moves for kind in move.kinds() for paper in ON[kind].split()
+           for line in (move.printed, move.now) if line}
+    met |= {(paper, hall) for what in others for paper in shown_on(what) for hall in halls_with(what, lines)}
+    found = {paper: sorted(hall for each, hall in met if each == paper) for paper in ALL.split()}
+    return {paper: [*filter(None, halls)] if paper in BY_HALL else [] for paper, halls in found.items()
+            if (any(halls) if paper in BY_HALL else halls)}
+
+
+def halls_of(papers: Papers) -> list[str]:
+    return sorted({hall for halls in papers.values() for hall in halls})
+
+
+def by_halls(papers: Papers) -> list[tuple[list[str], list[str]]]:
+    """The papers of the same halls together, with these halls."""
+    return [([*found], halls) for halls, found in itertools.groupby(papers, papers.__getitem__)]
+
+
+def in_words(papers: Papers) -> str:
+    return "; ".join(", ".join(found) + (f" of {', '.join(halls)}" if halls else "") for found, halls in by_halls(papers))
+
+
 def others(before: Mapping[str, str], now: Mapping[str, str]) -> list[tuple[str, str, str]]:
     """What is another, with its value before and now; nothing that there was not before, or is not now."""
     return [(what, old, now[what]) for what, old in sorted(before.items()) if now.get(what, old) != old]
@@ -114,17 +166,17 @@ def all_noted(office: Office) -> dict[str, Paper]:
     return {code: noted(office, code) for code in notebook.sessions_with(office, "printed")}
 
 
-def with_other_notes(office: Office, notes: Mapping[str, str]) -> dict[str, list[str]]:
-    """By session the halls of those of whom other notes are on paper than these by number."""
-    found = {code: {line.desk.hall for number, line in paper.lines.items()
-                    if line.shown[-1] != notes.get(number, line.shown[-1])}
+def with_other_notes(office: Office, notes: Mapping[str, str]) -> dict[str, Papers]:
+    """By session the papers that show other notes than these by number."""
+    found = {code: [Move(number, "", line, line._replace(shown=[*line.shown[:-1], notes[number]]))
+                    for number, line in paper.lines.items() if number in notes]
              for code, paper in all_noted(office).items()}
-    return {code: sorted(halls - {""}) for code, halls in found.items() if halls}
+    return {code: papers for code, moves in found.items() if (papers := out_of_date(moves, (), {}))}
 
 
-def with_another(office: Office, what: str, value: object) -> dict[str, list[str]]:
-    """By session the halls whose papers show another value of what their lines share."""
-    return {code: sorted(halls_with(what, paper.lines) - {""}) for code, paper in all_noted(office).items()
+def with_another(office: Office, what: str, value: object) -> dict[str, Papers]:
+    """By session the papers that show another value of what their lines share."""
+    return {code: out_of_date((), [what], paper.lines) for code, paper in all_noted(office).items()
             if paper.shared.get(what, str(value)) != str(value)}
 
 
@@ -157,9 +209,11 @@ def compared(reading: Reading, session: str) -> Compared | None:
     moves = [Move(number, names.get(number, ""), before.lines.get(number), now.get(number))
              for number in moved(before.lines, now)]
     common = others(before.shared, shared(reading, session))
-    halls = {line.desk.hall for move in moves for line in (move.now, move.printed) if line}
-    halls = halls.union(*(halls_with(what, now) for what, *_ in common)) - {""}
-    return Compared(before, moves, common, sorted(halls), sorted(halls - {line.desk.hall for line in now.values()}))
+    papers, used = out_of_date(moves, (what for what, *_ in common), now), {line.desk.hall for line in now.values()}
+    again = {paper: [hall for hall in halls if hall in used] for paper, halls in papers.items()}
+    again = {paper: halls for paper, halls in again.items() if halls or paper not in BY_HALL}
+    halls = halls_of(papers)
+    return Compared(before, moves, common, again, halls, [hall for hall in halls if hall not in used])
 
 
 def moved(before: Mapping[str, Line], now: Mapping[str, Line]) -> list[str]:

@@ -207,8 +207,8 @@ def sheet(code: str, sheet: str, hall: Sequence[str] = ()) -> str:
 def compare_printed(code: str) -> str:
     """Who is not as on paper: a piece of the session's page, or a page of its own where no script runs."""
     shown = Session(code)
-    return render_template("printed.html", s=shown.sums, found=on_paper.compared(view().reading, code),
-                           most=MOST_PEOPLE, taken=shown.taken())
+    return render_template("printed.html", s=shown.sums, most=MOST_PEOPLE,
+                           found=on_paper.compared(view().reading, code))
 
 
 @pages.post("/sessions/<code>/printed")

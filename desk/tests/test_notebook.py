@@ -291,9 +291,9 @@ class Commands(sample.SampleSchool):
         self.office("close-hall", "MON-AM", "GYM")
         self.office("withdraw", "0001119", "CS-1")  # so that somebody in another hall has another desk
         *moves, again, last = self.office("printed", "MON-AM", "--look").splitlines()
-        self.assertEqual(last, "to take away, as nobody sits there now: sheet, poster, cards, chart of GYM")
+        self.assertEqual(last, "to take away, as nobody sits there now: doors, poster, cards, chart of GYM")
         halls = {place for line in moves for place in re.findall(r"(?:: |-> )([A-Z]\w+) \d+(?= ->|,|$)", line)}
-        self.assertEqual(again, f"to print again: sheet, poster, cards, chart of {', '.join(sorted(halls - {'GYM'}))}; board, counts, slips")
+        self.assertEqual(again, f"to print again: doors, poster, cards, chart of {', '.join(sorted(halls - {'GYM'}))}; board, counts, slips")
         self.assertIn("PC1", again)
 
     def test_the_log_and_the_notebook_say_who_noted_it(self):
@@ -314,10 +314,10 @@ class Commands(sample.SampleSchool):
         """They stand on the board and the copies, in no hall; a session may have nobody else."""
         self.office("printed", "TUE-AM")
         done = self.run_office("withdraw", "0001221", "BI-1")  # who had no desk
-        self.assertIn("(board, counts, slips too): TUE-AM for no hall\n", done.stderr)
+        self.assertIn("out of date: TUE-AM (board, counts)\n", done.stderr)
         self.assertEqual(self.office("printed", "TUE-AM", "--look"),
                          "0001221 Nora Haddad: no desk -> not in the session\n"
-                         "to print again: board, counts, slips\n")
+                         "to print again: board, counts\n")
         self.office("printed", "TUE-AM")
         self.office("reinstate", "0001221", "BI-1")
         self.assertIn("0001221 Nora Haddad: not on paper -> no desk\n", self.office("printed", "TUE-AM", "--look"))
@@ -352,29 +352,35 @@ class Commands(sample.SampleSchool):
             [line] = [line for line in lines if line.startswith("0001306")]
             self.assertRegex(line, rf"^0001306 (Sami Nagy|Another Name): AULA 1, {said}$")
             self.assertIn("AULA", lines[-1], words)
+            if words[0] == "notes":
+                self.assertEqual(lines[-1], "to print again: doors of AULA; slips (`office slips MON-AM --desks --only 0001306`)")
 
     def test_what_lines_share(self):
-        """A line for a hall, a paper or the school, and none for each candidate; in the halls that show it."""
+        """A line for a hall, a paper or the school, and none for each candidate; and the papers of the halls that show it."""
         self.office("rows", "AULA", "6")
         halls_of = defaultdict(set)
         for _, _, paper, hall, _ in (line.split(",") for line in self.office("export", "MON-AM").splitlines()[1:]):
             halls_of[paper].update({hall} - {"-"})
         titles = self.write("h.csv", "hall,title,features\nAULA,Great hall,-\n")
         paper = self.write("p.csv", "paper,title,session,minutes,requires\nLAT,Latin 1,MON-AM,90,-\n")
-        for words, said, halls in (
-                (("open-hall", "MON-AM", "AULA", "16", "13:00"), "AULA: open until 12:30 -> 13:00", ["AULA"]),
-                (("open-hall", "MON-AM", "AULA", "17", "13:00"), "AULA: desks 16 -> 17", ["AULA"]),
-                (("rows", "AULA", "4", "down"), "AULA: rows 6 across -> 4 down", ["AULA"]),
-                (("import", "halls", titles), "AULA: hall title Aula, main building -> Great hall", ["AULA"]),
-                (("import", "papers", paper), "LAT: paper title Latin -> Latin 1", halls_of["LAT"]),
-                (("school", "Hill"), "school: name - -> Hill", set().union(*halls_of.values()))):
+        of_latin, of_all = (", ".join(sorted(halls)) for halls in (halls_of["LAT"], set().union(*halls_of.values())))
+        for words, said, papers in (
+                (("open-hall", "MON-AM", "AULA", "16", "13:00"), "AULA: open until 12:30 -> 13:00", "doors of AULA"),
+                (("open-hall", "MON-AM", "AULA", "17", "13:00"), "AULA: desks 16 -> 17", "doors, chart of AULA"),
+                (("rows", "AULA", "4", "down"), "AULA: rows 6 across -> 4 down", "chart of AULA"),
+                (("import", "halls", titles), "AULA: hall title Aula, main building -> Great hall",
+                 "doors, poster, cards, chart of AULA; board, counts, slips"),
+                (("import", "papers", paper), "LAT: paper title Latin -> Latin 1",
+                 f"doors, cards of {of_latin}; counts, slips"),
+                (("school", "Hill"), "school: name - -> Hill",
+                 f"doors, poster, chart of {of_all}; board, counts, slips")):
             self.office("printed", "MON-AM")
             self.assertEqual(self.run_office("rows", "PC1", "6").stderr, "")  # there was no chart of it before
             self.assertEqual(self.office("printed", "MON-AM", "--look"), "the papers are up to date\n")
             told = self.run_office(*words)
             self.assertEqual(self.office("printed", "MON-AM", "--look"),
-                             f"{said}\nto print again: sheet, poster, cards, chart of {', '.join(sorted(halls))}; board, counts, slips\n")
-            self.assertIn(f": MON-AM for {', '.join(sorted(halls))}\n", told.stderr, words)
+                             f"{said}\nto print again: {papers}\n")
+            self.assertIn(f": MON-AM ({papers})\n", told.stderr, words)
             self.assertEqual(self.office("printed"),
                              "MON-AM: the papers are out of date; `office printed MON-AM --look`\n")
 
@@ -385,7 +391,7 @@ class Commands(sample.SampleSchool):
         self.assertEqual(self.run_office("notes", first).stderr, "")
         other = self.write("other.csv", "number,text\n0001306,two\n")
         self.assertEqual(self.run_office("notes", other).stderr,
-                         "1 session has printed papers that are out of date (board, counts, slips too): MON-AM for AULA\n"
+                         "1 session has printed papers that are out of date: MON-AM (doors of AULA; slips)\n"
                          "`office printed MON-AM --look` lists them\n")
         self.assertEqual(self.run_office("notes", first).stderr, "")  # as on paper again
 
