@@ -10,7 +10,7 @@ from exam_desk.words import few
 
 if TYPE_CHECKING:
     from argparse import ArgumentParser
-    from collections.abc import Mapping
+    from collections.abc import Collection, Iterator, Mapping
 
     from exam_desk.on_paper import Line, Move, Papers
     from exam_desk.reading import Reading
@@ -19,41 +19,56 @@ MOST_BYTES = 1 << 16  # of numbers on standard input
 MOST_SLIPS = 5  # whose numbers a line names
 
 
-@command.named("""Notes who was missing in a session, and lists it for the exam board: absent SESSION [NUMBER .. | -]
+@command.named("""Notes who was missing in a session, and lists it for the exam board: absent [SESSION [NUMBER .. | -]]
 
     office absent MON-AM 0001051 0001060    notes two candidates as absent
     office absent MON-AM - <numbers.txt     as many as stand in a file, parted by spaces or lines
-    office absent MON-AM >board.csv         prints session, date, number, paper, and present, absent or no desk
+    office absent MON-AM >board.csv         prints session, date, number, paper, and present, absent, no desk or not sat
+    office absent >board.csv                of all sessions up to today
 
 All of it from the day of the session on. Who was missing is no fact of the office: no seat changes by it. Zeros in
 front of a number may be left out; where one number is wrong nothing is noted. The paper is the one that the candidate
-was to sit, of a second sitting the paper that it was made of. Where nobody noted anything of a session, all who have a
+was to sit, of a second sitting the paper that it was made of; one that they miss, since another is at the same time,
+is listed as not sat. Where nobody noted anything of a session, all who have a
 desk are listed as present, and a note says so; so does one of who was noted, and has left the session.
 """)
 def absent(parser: ArgumentParser) -> None:
-    from exam_desk import lists, notebook, second_sitting
+    from exam_desk import facts, lists, notebook
     parser.add_argument("--there", metavar="NUMBER", nargs="+", default=[], help="who is not absent after all")
-    given = command.given(parser, "session", "number*", "--nobody: nobody was absent")
+    given = command.given(parser, "session?", "number*", "--nobody: nobody was absent")
     session, missing, there = given.session, numbers(given.number), numbers(given.there)
     notes = bool(given.number or given.there or given.nobody)
+    if notes and session is None:
+        parser.error("name a session")
     with command.reading() as reading:
+        office, codes = reading.office, [session]
         if notes:
-            notebook.note_absent(command.office(), reading, session, missing, there, given.nobody)
-        text, noted = notebook.attendance(reading, session), notebook.absences(reading, session)
-        members = len(reading.members(session))
-        later = [(first["code"], second["session"], len(reading.members(second["session"])))
-                 for first, second in second_sitting.pairs(reading.rows) if first["session"] == session]
-    if notes:
-        text = f"{lists.count(len(noted.members) if noted else 0, 'candidate')} absent of {members:,}\n"
-    elif noted is None:
-        command.warn(f"NOTE nobody has noted who was absent in {session}: all who have a desk are listed as present; "
-                     f"`office absent {session} --nobody` notes that nobody was")
-    if noted and noted.gone:
-        command.warn(f"NOTE the exam board's list lacks who is noted as absent and has left {session}: "
-                     f"{few(noted.gone)}")
-    for paper, code, count in later if not notes else ():
-        command.warn(f"NOTE {paper} is sat in {code} too: `office absent {code}` has {lists.count(count, 'candidate')}")
+            notebook.note_absent(office, reading, session, missing, there, given.nobody)
+            noted, members = notebook.absences(reading, session), len(reading.members(session))
+            text = f"{lists.count(len(noted.members) if noted else 0, 'candidate')} absent of {members:,}\n"
+        else:
+            if session is None:
+                codes = [code for code, day, _ in facts.sessions(reading.rows) if not notebook.is_to_come(office, day)]
+            text = notebook.attendance(reading, codes)
+        warnings = [line for code in codes for line in beside_list(reading, code, [] if notes else codes)]
+    for line in warnings:
+        command.warn(line)
     command.say(text)
+
+
+def beside_list(reading: Reading, session: str, listed: Collection[str]) -> Iterator[str]:
+    """What the list for the exam board does not say of a session, and where else its papers are sat."""
+    from exam_desk import lists, notebook, second_sitting
+    noted = notebook.absences(reading, session)
+    if noted is None and listed:
+        yield (f"NOTE nobody has noted who was absent in {session}: all who have a desk are listed as present; "
+               f"`office absent {session} --nobody` notes that nobody was")
+    if noted and noted.gone:
+        yield f"NOTE the exam board's list lacks who is noted as absent and has left {session}: {few(noted.gone)}"
+    for first, second in second_sitting.pairs(reading.rows) if listed else ():
+        if first["session"] == session and (code := second["session"]) not in listed:
+            count = lists.count(len(reading.members(code)), "candidate")
+            yield f"NOTE {first['code']} is sat in {code} too: `office absent {code}` has {count}"
 
 
 def numbers(words: list[str]) -> list[str]:

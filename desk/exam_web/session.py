@@ -181,7 +181,7 @@ def note_absent(code: str) -> Response:
 @pages.get("/sessions/<code>/attendance.csv")
 def attendance_csv(code: str) -> Response:
     Session(code)
-    return attached(notebook.attendance(view().reading, code).encode(), f"{code}-attendance.csv")
+    return attached(notebook.attendance(view().reading, [code]).encode(), f"{code}-attendance.csv")
 
 
 @pages.get("/sessions/<code>/seats.csv")

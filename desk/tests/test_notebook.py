@@ -236,7 +236,7 @@ class Commands(sample.SampleSchool):
         note = ("office: NOTE nobody has noted who was absent in MON-AM: all who have a desk are listed as present; "
                 "`office absent MON-AM --nobody` notes")
         for self.environment["TODAY"] in ("2027-06-07", "2027-07-01"):
-            self.assertEqual({line[4] for line in self.board(note)[1:]}, {"present", "no desk"})
+            self.assertEqual({line[4] for line in self.board(note)[1:]}, {"present", "no desk", "not sat"})
         self.assertIn("no number is given", self.refused("absent", "MON-AM", "-", stdin="\n"))
         self.office("absent", "MON-AM", "1051")
         self.assertEqual(self.office("absent", "MON-AM", "--there", "1051"), "0 candidates absent of 60\n")
@@ -255,10 +255,15 @@ class Commands(sample.SampleSchool):
         lines = self.board("office: NOTE")
         self.assertEqual(lines[0], ["session", "date", "number", "paper", "attendance"])
         self.assertEqual({(line[0], line[1]) for line in lines[1:]}, {("MON-AM", "2027-06-07")})
-        self.assertEqual(Counter(line[4] for line in lines[1:]), {"present": 58, "no desk": 2})
+        self.assertEqual(Counter(line[4] for line in lines[1:]), {"present": 58, "no desk": 2, "not sat": 4})
         members = [line for line in self.office("export", "MON-AM").splitlines()[1:]]
         self.assertEqual(sorted((line.split(",")[1], line.split(",")[2]) for line in members),
-                         sorted((line[2], line[3]) for line in lines[1:]))
+                         sorted((line[2], line[3]) for line in lines[1:] if line[4] != "not sat"))
+        self.assertIn(["MON-AM", "2027-06-07", "0001306", "MA-2", "not sat"], lines)  # sits LAT, and is entered for both
+        every = self.run_office("absent")  # MON-PM is on that day too, TUE-AM on the next
+        self.assertEqual([line[0] for line in csv.reader(io.StringIO(every.stdout))],
+                         ["session", *["MON-AM"] * 64, *["MON-PM"] * 60])
+        self.assertEqual(every.stderr.count("NOTE nobody has noted who was absent in MON-"), 2)
         self.assertEqual(self.office("absent", "MON-AM", "0001051"), f"1 candidate absent of {len(members)}\n")
         self.assertEqual(self.office("absent", "MON-AM", "-", stdin="0001000\n1017, 0001051\n"),
                          f"3 candidates absent of {len(members)}\n")

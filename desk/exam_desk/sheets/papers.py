@@ -25,20 +25,21 @@ from exam_desk.words import clock, long_day, short_day
 BOARD = "<h1>{}{}</h1>\n<p class=legend>{}</p>\n<div class=columns>{}</div>\n"
 ASK = Markup("<b>ask the office</b>")  # in place of a hall
 # What stands in a head of a table comes on each page again.
-POSTER = ("<table class=door><thead><tr><th><h1>{}</h1>\n<h2>{}</h2>\n<p>{}{} &middot; {}</p></th></tr></thead>\n"
+POSTER = ("<table class=door><thead><tr><th><h1>{}</h1>\n<h2>{}</h2>\n<p>{}{} &middot; {}{}</p></th></tr></thead>\n"
           "<tbody><tr><td><div class=columns>{}</div></td></tr></tbody></table>")
 CARD = "<div class=card><b>{}</b><i>{}</i><p>{}</p><p>{}</p><p>{}</p></div>"
 CARDS = 10  # on a page
 UPRIGHT = 12  # desks in a row at most where a page is upright
 NO_PLACE = Markup("<td class=none></td>")
 CHART = ("<table class='{0}' style='--across: {1}'><thead><tr><th colspan={1}><h1>{2} ({3})</h1>\n"
-         "<p>{4}{5}. Front of the hall above. {6}</p></th></tr></thead>\n<tbody>\n{7}</tbody></table>")
+         "<p>{4}{5}. Front of the hall above. {6}{7}</p></th></tr></thead>\n<tbody>\n{8}</tbody></table>")
 COPIES = ["Hall", "Paper", "n:Copies", "n:Last finish", "box:Spare", "box:Packed"]
 ALL_COPIES = ["Paper, all halls", "n:Copies", "n:Last finish"]
 TOLD = ["w:Session", "w:Number", "Name", "Before", "Now", "box:Told"]
 SAT = "{}<br>{}<br>{}, <span class=w>{}–{}</span>"
 
 DOORS = ["n:Desk", "w:Number", "Name", "Paper", "w:Finish", "Arrangement", "sign:Signature"]
+COLLECTED = ["Paper", "n:Expected", "box:Present", "box:Scripts", "sign:Collected by"]
 LATER = "or later"  # below the finish of who has a note, since it may be of rest breaks
 ABOVE = "<span>{}<br>open until {}, last finish {}<br>{}, {} expected</span><b>{}</b><br>{}, page {} of {}<br>{}"
 BELOW = Markup("Present: ________ &emsp; Absent: ________ &emsp; Invigilator: ______________________________")
@@ -99,6 +100,10 @@ def finish(member: Member, before: Mapping[str, Line], is_noted: bool) -> Markup
     return joined([now, *(html("<small>{}</small>", each) for each in below)], "<br>")
 
 
+def below(lines: Iterable[str]) -> Markup:
+    return joined(html("<br>{}", line) for line in lines)
+
+
 def named(members: Collection[Member]) -> dict[str, Markup]:
     """The names of all members of a session by their numbers, which stand beside the names of namesakes alone."""
     names = Counter(fold(member.name) for member in members)
@@ -124,9 +129,10 @@ def board(reading: Reading, session: str) -> str:
 def poster(reading: Reading, session: str, asked: Collection[str] = ()) -> str:
     """Posters for the doors: each hall from a page of its own on, names with desks and nothing private."""
     moment, name, names = when(reading, session), school(reading.office, " &middot; "), named(reading.members(session))
+    others = overlaps.in_halls(reading, session)
     return of_desks(reading, session, "Posters", (
         html(POSTER, fitted(text(opening.title), ON_POSTER), moment, name, opening.hall,
-             lists.count(len(there), "candidate"),
+             lists.count(len(there), "candidate"), below(others.get(opening.hall, [])),
              table(["Name", "n:Desk"], [[names[each.number], each.sitting.desk] for each in lists.by_name(there)]))
         for opening, there in lists.halls(reading, session, asked)), "poster")
 
@@ -146,12 +152,12 @@ def chart(reading: Reading, session: str, asked: Collection[str] = ()) -> str:
     """Seating charts: halls as rows of desks, with who sits where. Raises `NotDrawn` too, with the other halls."""
     halls, rows = lists.halls(reading, session, asked), notebook.rows_of_halls(reading.office)
     moment, name, papers = when(reading, session), school(reading.office, ". "), paper_names(reading.rows, CODE)
-    codes = [opening.hall for opening, _ in halls]
+    codes, others = [opening.hall for opening, _ in halls], overlaps.in_halls(reading, session)
     if unknown := [code for code in codes if code not in rows]:
         raise NotDrawn(unknown, [code for code in codes if code in rows])
     return of_desks(reading, session, "Seating charts", (
         html(CHART, "chart wide" if stand.across > UPRIGHT else "chart", stand.across, text(opening.title),
-             opening.hall, name, moment, lists.count(len(there), "candidate"),
+             opening.hall, name, moment, lists.count(len(there), "candidate"), below(others.get(opening.hall, [])),
              joined(drawn(opening.desks, there, stand, papers)))
         for opening, there in halls for stand in [rows[opening.hall]]), "chart")
 
@@ -205,15 +211,23 @@ def doors(reading: Reading, session: str, asked: Collection[str] = ()) -> str:
     notes, printed = notebook.notes(reading.office), on_paper.noted(reading.office, session).lines
     papers, missed = paper_names(reading.rows, CODE), reading.clashes(session)
     made = {second["code"]: first for first, second in second_sitting.pairs(reading.rows)}
+    others, starts = overlaps.in_halls(reading, session), overlaps.starts(reading)
     told = {number: [*filter(None, [notes.get(number)]), *(f"does not sit {paper}" for paper in missed.get(number, ())),
-                     *watched(made, sits, reading.all_of(number).values())]
-            for number, _, sits in reading.members(session)}
-    others = overlaps.in_halls(reading, session)
+                     *watched(made, sits, sittings), *at_once(starts, sits, sittings)]
+            for number, _, sits in reading.members(session) for sittings in [reading.all_of(number).values()]}
     return of_desks(reading, session, "Invigilators' sheets", (
         page for opening, there in lists.halls(reading, session, asked)
         for page in of_door(heading, titles, opening, there, others.get(opening.hall, []),
                             [row_of(member, papers, told[member.number], printed, member.number in notes)
                              for member in there])), "doors")
+
+
+def at_once(starts: Mapping[str, int], sits: Sitting, all_of: Iterable[Sitting]) -> Iterator[str]:
+    """Until when, or from when on, and where somebody sits another session at that time."""
+    for other in overlaps.beside(starts, sits, all_of):
+        until = starts[other.session] < starts[sits.session]
+        yield (f"sits {other.session} {f'until {other.finish}' if until else f'from {other.start}'}, "
+               f"in {other.hall or 'no hall yet'}")
 
 
 def watched(made: Mapping[str, sqlite3.Row], sits: Sitting, all_of: Iterable[Sitting]) -> Iterator[str]:
@@ -235,13 +249,15 @@ def of_door(heading: Markup, titles: Mapping[str, Markup], opening: facts.Openin
     said = [*(html("{}: {}", titles[code], count) for code, count in counted), *map(safe, others)]
     rows, heights = zip(*found)
     above = lines([opening.title, *(each.striptags() for each in said)], TITLES)
-    parts = parted(heights, HEIGHT - HEADING - LINE * max(3, above))
+    parts = parted(heights, HEIGHT - HEADING - LINE * max(3, above), LAST + ROW * (1 + len(counted)))
+    end = BELOW, table(COLLECTED, [[code, count, "", "", ""] for code, count in counted], name="collected")
     last = max(member.sitting.finish for member in members)
     for place, part in enumerate(parts, 1):
         head = html(ABOVE, heading, clock(opening.until), last, lists.count(opening.desks, "desk"),
                     lists.count(len(members), "candidate"), text(opening.title), opening.hall, place, len(parts),
                     joined(said, "<br>"))
-        yield table(DOORS, rows[part], head, BELOW if place == len(parts) else Markup())
+        below_it, scripts = end if place == len(parts) else (Markup(), Markup())
+        yield table(DOORS, rows[part], head, below_it) + scripts
 
 
 def row_of(member: Member, papers: Mapping[str, Markup], told: Iterable[str], printed: Mapping[str, Line],
@@ -273,11 +289,11 @@ def lines(texts: Iterable[str], room: float) -> int:
     return sum(1 + int(1.15 * width(each) / room) for each in texts)
 
 
-def parted(heights: Sequence[float], room: float) -> list[slice]:
-    """Which rows stand on each page; below the last row there is room for a line."""
+def parted(heights: Sequence[float], room: float, below: float) -> list[slice]:
+    """Which rows stand on each page; below the last row there is so much room."""
     found, first, left = [], 0, room
     for place, height in enumerate(heights):
-        needed = height + (LAST if place == len(heights) - 1 else 0)
+        needed = height + (below if place == len(heights) - 1 else 0)
         if needed > left and place > first:
             found.append(slice(first, place))
             first, left = place, room

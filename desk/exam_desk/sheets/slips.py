@@ -126,7 +126,8 @@ def slips_of(reading: Reading, choice: Choice) -> list[Slip]:
     slips = []
     for person in people:
         sittings = reading.all_of(person.number)
-        sat = [Sat(sits, clashes[code].get(person.number, []), overlaps.beside(starts, sits, sittings.values()))
+        sat = [Sat(sits, clashes[code].get(person.number, []),
+                   [each.paper for each in overlaps.beside(starts, sits, sittings.values())])
                for code, sits in sittings.items() if code in codes]
         if sat:
             note = notebook.for_candidate(notes.get(person.number, ""))
