@@ -224,10 +224,17 @@ class RandomOffice:
 
     def doors(self, reading, session):
         tables = collections.defaultdict(list)
+        scripts = []
         for table in Cells(page := papers.doors(reading, session)).tables:
+            if table[0][0] == "Paper":
+                scripts.append([row[:2] for row in table[1:]])
+                continue
             tables[re.search(r"\|([A-Z0-9]+), page [0-9]+ of [0-9]+\|", table[0][0])[1]].append(table)
         halls = sorted({seat.hall for seat in self.now[session].values()} - {"-"})
         equal([*tables], halls, "halls", page)
+        copies = [sorted(collections.Counter(seat.paper for seat in self.now[session].values() if seat.hall == hall)
+                         .items()) for hall in halls]
+        equal(scripts, [[[code, str(count)] for code, count in found] for found in copies], "scripts", page)
         for hall, parts in tables.items():
             lines = self.sheet(self.path, "door-list", session, hall)
             rows = [[*line[:25].split(), line[26:]] for line in lines[2:]]

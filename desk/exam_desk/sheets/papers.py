@@ -290,7 +290,7 @@ def lines(texts: Iterable[str], room: float) -> int:
 
 
 def parted(heights: Sequence[float], room: float, below: float) -> list[slice]:
-    """Which rows stand on each page; below the last row there is so much room."""
+    """Which rows stand on each page; below the last row there is so much room. The last two pages are as full."""
     found, first, left = [], 0, room
     for place, height in enumerate(heights):
         needed = height + (below if place == len(heights) - 1 else 0)
@@ -298,6 +298,10 @@ def parted(heights: Sequence[float], room: float, below: float) -> list[slice]:
             found.append(slice(first, place))
             first, left = place, room
         left -= height
+    for place in range(first - 1, found[-1].start if found else first, -1):
+        if sum(heights[place:]) + below > sum(heights[found[-1].start:place]):
+            break
+        found[-1], first = slice(found[-1].start, place), place
     return [*found, slice(first, None)]
 
 
