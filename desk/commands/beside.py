@@ -106,7 +106,7 @@ def notes(parser: ArgumentParser) -> None:
     texts_given = files.texts_by_number(files.read(given.file), given.file, "text", notebook.MOST_NOTE_BYTES, known)
     noted = notebook.take_notes(office, texts_given)
     command.say(" ".join(f"{word} {noted[word]}" for word in ("added", "changed", "removed", "same")) + "\n")
-    tell_papers(on_paper.with_other_notes(office, texts_given))
+    tell_papers(on_paper.otherwise(office, texts_given, {}))
 
 
 def tell_papers(papers: Mapping[str, Papers]) -> None:
@@ -197,7 +197,7 @@ def rows(parser: ArgumentParser) -> None:
         if given.hall not in titles:
             raise Trouble(f"the office has no hall {given.hall}; it has {few(sorted(titles), 20)}")
         notebook.keep_rows(office, given.hall, asked := notebook.Rows(given.across or 0, given.running))
-        tell_papers(on_paper.with_another(office, on_paper.OF_ROWS.format(given.hall), asked))
+        tell_papers(on_paper.otherwise(office, {}, {on_paper.OF_ROWS.format(given.hall): str(asked)}))
     kept = sorted(notebook.rows_of_halls(office).items())
     command.say_lines([f"{hall}: rows of {rows.across}, {rows.running}" for hall, rows in kept] or ["nothing is kept"])
 
@@ -217,6 +217,6 @@ def school(parser: ArgumentParser) -> None:
         notebook.set_school_name(office, given.page, notebook.PAGE)
     if given.name is not None:
         notebook.set_school_name(office, given.name)
-        tell_papers(on_paper.with_another(office, on_paper.OF_SCHOOL, given.name))
+        tell_papers(on_paper.otherwise(office, {}, {on_paper.OF_SCHOOL: given.name}))
     address = notebook.school_name(office, notebook.PAGE)
     command.say_lines([notebook.school_name(office) or "no name", *filter(None, [address])])

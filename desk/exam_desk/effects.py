@@ -36,7 +36,8 @@ class Effects:
         self.over = {code: found for code, found in past.items() if code in known}
         self.past = [code for code in past if code not in known]  # new sessions
         self.opened, self.shut = opened(before, after), shut(before, after)
-        self.out_of_date = out_of_date(before, after, self.touched)
+        self.out_of_date = {code: papers for code, people in self.touched.items()
+                            if (papers := out_of_date(before, after, code, people))}
         self.codes = by_name(after, [key for key, column, *_ in telling.other_values(before, after, ["candidates"])
                                      if column == "code"])
 
@@ -72,16 +73,9 @@ def shut(before: Reading, after: Reading) -> list[sqlite3.Row]:
     return [row for key, row in openings(after).items() if row["until"] <= row["start"] and was.get(key) != row]
 
 
-def out_of_date(before: Reading, after: Reading, sessions: Touched) -> dict[str, on_paper.Papers]:
-    """By session the papers that are noted as printed and hold no longer, of those whom a change can meet."""
-    found = {code: papers_out_of_date(before, after, code, people) for code, people in sessions.items()}
-    return {code: papers for code, papers in found.items() if papers}
-
-
-def papers_out_of_date(before: Reading, after: Reading, session: str, people: Collection[str] | None
-                       ) -> on_paper.Papers:
-    """The papers that show those of these people, or of all, who are otherwise than before and not as on paper, or
-    what lines share and is another."""
+def out_of_date(before: Reading, after: Reading, session: str, people: Collection[str] | None) -> on_paper.Papers:
+    """The papers that are noted as printed and show those of these people, or of all, who are otherwise than before
+    and not as on paper, or what lines share and is another."""
     paper = on_paper.noted(after.office, session)
     if not paper.lines:
         return {}

@@ -122,12 +122,6 @@ def shared(reading: Reading, session: str) -> dict[str, str]:
     return {**found, OF_SCHOOL: notebook.school_name(reading.office)}
 
 
-def halls_with(what: str, lines: Mapping[str, Line]) -> set[str]:
-    """The halls whose papers show something that lines share; "" for who has no desk."""
-    code = what.partition(OF)[0]
-    return {line.desk.hall for line in lines.values() if code in (SCHOOL, line.desk.hall, line.shown[1])}
-
-
 def shown_on(what: str) -> list[str]:
     """The papers that show something that lines share."""
     return ON[what if what in ON else what.partition(OF)[2]].split()
@@ -137,7 +131,8 @@ def out_of_date(moves: Iterable[Move], others: Iterable[str], lines: Mapping[str
     """The papers that show of somebody, or of what lines share, what is another, each with its halls."""
     met = {(paper, line.desk.hall) for move in moves for kind in move.kinds() for paper in ON[kind].split()
            for line in (move.printed, move.now) if line}
-    met |= {(paper, hall) for what in others for paper in shown_on(what) for hall in halls_with(what, lines)}
+    met |= {(paper, line.desk.hall) for what in others for paper in shown_on(what) for line in lines.values()
+            if what.partition(OF)[0] in (SCHOOL, line.desk.hall, line.shown[1])}
     found = {paper: sorted(hall for each, hall in met if each == paper) for paper in ALL.split()}
     return {paper: [*filter(None, halls)] if paper in BY_HALL else [] for paper, halls in found.items()
             if (any(halls) if paper in BY_HALL else halls)}
@@ -153,7 +148,8 @@ def by_halls(papers: Papers) -> list[tuple[list[str], list[str]]]:
 
 
 def in_words(papers: Papers) -> str:
-    return "; ".join(", ".join(found) + (f" of {', '.join(halls)}" if halls else "") for found, halls in by_halls(papers))
+    return "; ".join(", ".join(found) + (f" of {', '.join(halls)}" if halls else "")
+                     for found, halls in by_halls(papers))
 
 
 def others(before: Mapping[str, str], now: Mapping[str, str]) -> list[tuple[str, str, str]]:
@@ -161,23 +157,15 @@ def others(before: Mapping[str, str], now: Mapping[str, str]) -> list[tuple[str,
     return [(what, old, now[what]) for what, old in sorted(before.items()) if now.get(what, old) != old]
 
 
-def all_noted(office: Office) -> dict[str, Paper]:
-    """What was printed, by session."""
-    return {code: noted(office, code) for code in notebook.sessions_with(office, "printed")}
-
-
-def with_other_notes(office: Office, notes: Mapping[str, str]) -> dict[str, Papers]:
-    """By session the papers that show other notes than these by number."""
-    found = {code: [Move(number, "", line, line._replace(shown=[*line.shown[:-1], notes[number]]))
-                    for number, line in paper.lines.items() if number in notes]
-             for code, paper in all_noted(office).items()}
-    return {code: papers for code, moves in found.items() if (papers := out_of_date(moves, (), {}))}
-
-
-def with_another(office: Office, what: str, value: object) -> dict[str, Papers]:
-    """By session the papers that show another value of what their lines share."""
-    return {code: out_of_date((), [what], paper.lines) for code, paper in all_noted(office).items()
-            if paper.shared.get(what, str(value)) != str(value)}
+def otherwise(office: Office, notes: Mapping[str, str], common: Mapping[str, str]) -> dict[str, Papers]:
+    """By session the papers that show other notes by number, or other values of what their lines share, than these."""
+    found = dict[str, Papers]()
+    for code in notebook.sessions_with(office, "printed"):
+        paper = noted(office, code)
+        moves = (Move(number, "", line, line._replace(shown=[*line.shown[:-1], notes[number]]))
+                 for number, line in paper.lines.items() if number in notes)
+        found[code] = out_of_date(moves, (what for what, *_ in others(paper.shared, common)), paper.lines)
+    return {code: papers for code, papers in found.items() if papers}
 
 
 def note(office: Office, reading: Reading, session: str) -> tuple[int, str]:

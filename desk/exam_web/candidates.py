@@ -89,7 +89,7 @@ def note(number: int) -> Response:
         raise Wrong(page_of, "note", note=wrong)
     notebook.take_notes(office(), {f"{number:07}": given})
     told = text("The note is kept.") if given else text("There is no note on this candidate.")
-    tell_papers(on_paper.with_other_notes(office(), {f"{number:07}": given}))
+    tell_papers(on_paper.otherwise(office(), {f"{number:07}": given}, {}))
     return lead("candidates.page", told, number=number, _anchor="note")
 
 

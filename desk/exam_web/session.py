@@ -160,7 +160,7 @@ def draw(code: str) -> Response:
         raise Wrong(charts if is_chart else shown.hall_page(halls[0]), "draw", **wrong)
     for hall, rows in drawn.items():
         notebook.keep_rows(office(), hall, rows)
-        tell_papers(on_paper.with_another(office(), on_paper.OF_ROWS.format(hall), rows))
+        tell_papers(on_paper.otherwise(office(), {}, {on_paper.OF_ROWS.format(hall): str(rows)}))
     return lead(charts[0], **charts[1]) if is_chart else lead("session.page", code=code, _anchor=f"hall-{halls[0]}")
 
 

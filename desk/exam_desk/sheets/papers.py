@@ -213,8 +213,8 @@ def doors(reading: Reading, session: str, asked: Collection[str] = ()) -> str:
     made = {second["code"]: first for first, second in second_sitting.pairs(reading.rows)}
     others, starts = overlaps.in_halls(reading, session), overlaps.starts(reading)
     told = {number: [*filter(None, [notes.get(number)]), *(f"does not sit {paper}" for paper in missed.get(number, ())),
-                     *watched(made, sits, sittings), *at_once(starts, sits, sittings)]
-            for number, _, sits in reading.members(session) for sittings in [reading.all_of(number).values()]}
+                     *elsewhere(made, starts, sits, reading.all_of(number).values())]
+            for number, _, sits in reading.members(session)}
     return of_desks(reading, session, "Invigilators' sheets", (
         page for opening, there in lists.halls(reading, session, asked)
         for page in of_door(heading, titles, opening, there, others.get(opening.hall, []),
@@ -222,17 +222,14 @@ def doors(reading: Reading, session: str, asked: Collection[str] = ()) -> str:
                              for member in there])), "doors")
 
 
-def at_once(starts: Mapping[str, int], sits: Sitting, all_of: Iterable[Sitting]) -> Iterator[str]:
-    """Until when, or from when on, and where somebody sits another session at that time."""
+def elsewhere(made: Mapping[str, sqlite3.Row], starts: Mapping[str, int], sits: Sitting, all_of: Collection[Sitting]
+              ) -> Iterator[str]:
+    """What invigilators must know, from all that somebody sits: what they sit in another session at that time; and where
+    a second sitting is behind this one, or is this one: in between somebody stays with them. Of each paper that was
+    made for second sittings its own one is given."""
     for other in overlaps.beside(starts, sits, all_of):
-        until = starts[other.session] < starts[sits.session]
-        yield (f"sits {other.session} {f'until {other.finish}' if until else f'from {other.start}'}, "
-               f"in {other.hall or 'no hall yet'}")
-
-
-def watched(made: Mapping[str, sqlite3.Row], sits: Sitting, all_of: Iterable[Sitting]) -> Iterator[str]:
-    """What invigilators must know, from all that somebody sits, where a second sitting is behind this one, or is this
-    one: in between somebody stays with them. Of each paper that was made for second sittings its own one is given."""
+        when = f"until {other.finish}" if starts[other.session] < starts[sits.session] else f"from {other.start}"
+        yield f"sits {other.session} {when}, in {other.hall or 'no hall yet'}"
     mine = made.get(sits.paper)
     for other in all_of:
         first = made.get(other.paper)
