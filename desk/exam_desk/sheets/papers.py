@@ -25,14 +25,14 @@ from exam_desk.words import clock, long_day, short_day
 BOARD = "<h1>{}{}</h1>\n<p class=legend>{}</p>\n<div class=columns>{}</div>\n"
 ASK = Markup("<b>ask the office</b>")  # in place of a hall
 # What stands in a head of a table comes on each page again.
-POSTER = ("<table class=door><thead><tr><th><h1>{}</h1>\n<h2>{}</h2>\n<p>{}{} &middot; {}{}</p></th></tr></thead>\n"
+POSTER = ("<table class=door><thead><tr><th><h1>{}</h1>\n<h2>{}</h2>\n<p>{}{} &middot; {}</p></th></tr></thead>\n"
           "<tbody><tr><td><div class=columns>{}</div></td></tr></tbody></table>")
 CARD = "<div class=card><b>{}</b><i>{}</i><p>{}</p><p>{}</p><p>{}</p></div>"
 CARDS = 10  # on a page
 UPRIGHT = 12  # desks in a row at most where a page is upright
 NO_PLACE = Markup("<td class=none></td>")
 CHART = ("<table class='{0}' style='--across: {1}'><thead><tr><th colspan={1}><h1>{2} ({3})</h1>\n"
-         "<p>{4}{5}. Front of the hall above. {6}{7}</p></th></tr></thead>\n<tbody>\n{8}</tbody></table>")
+         "<p>{4}{5}. Front of the hall above. {6}</p></th></tr></thead>\n<tbody>\n{7}</tbody></table>")
 COPIES = ["Hall", "Paper", "n:Copies", "n:Last finish", "box:Spare", "box:Packed"]
 ALL_COPIES = ["Paper, all halls", "n:Copies", "n:Last finish"]
 TOLD = ["w:Session", "w:Number", "Name", "Before", "Now", "box:Told"]
@@ -69,17 +69,12 @@ def when(reading: Reading, session: str) -> Markup:
 
 
 def of_desks(reading: Reading, session: str, title: str, sheets: Iterable[Markup], name: str) -> str:
-    """A document of sheets on who has a desk in a session, each on pages of its own."""
-    found = joined(html("<div class=sheet>{}</div>\n", sheet) for sheet in sheets)
-    return document(reading, f"{title} {session}", found or nobody(reading, session), "paper", name)
-
-
-def nobody(reading: Reading, session: str) -> Markup:
-    """What stands in place of sheets where nobody has a desk in a session."""
-    members = lists.count(len(reading.members(session)), "candidate")
-    why = html("{}, none has a desk: <code>office why {}</code> says why", members, session)
-    return html("<h2>{}{}</h2>\n<p>{}</p>\n", school(reading.office, "<br>"), when(reading, session),
-                why if reading.members(session) else "nobody is entered")
+    """A document of sheets on who has a desk in a session, each on pages of its own; or why there is none."""
+    found, people = joined(html("<div class=sheet>{}</div>\n", sheet) for sheet in sheets), len(reading.members(session))
+    why = html("{}, none has a desk: <code>office why {}</code> says why", lists.count(people, "candidate"), session)
+    none = html("<h2>{}{}</h2>\n<p>{}</p>\n", school(reading.office, "<br>"), when(reading, session),
+                why if people else "nobody is entered")
+    return document(reading, f"{title} {session}", found or none, "paper", name)
 
 
 def desk(member: Member, before: Mapping[str, Line]) -> Markup:
@@ -98,10 +93,6 @@ def finish(member: Member, before: Mapping[str, Line], is_noted: bool) -> Markup
     old = line.shown[SHOWN.index("finish")] if line else ""
     below = [f"was {old}"] * (old not in ("", now)) + [LATER] * is_noted
     return joined([now, *(html("<small>{}</small>", each) for each in below)], "<br>")
-
-
-def below(lines: Iterable[str]) -> Markup:
-    return joined(html("<br>{}", line) for line in lines)
 
 
 def named(members: Collection[Member]) -> dict[str, Markup]:
@@ -132,7 +123,7 @@ def poster(reading: Reading, session: str, asked: Collection[str] = ()) -> str:
     others = overlaps.in_halls(reading, session)
     return of_desks(reading, session, "Posters", (
         html(POSTER, fitted(text(opening.title), ON_POSTER), moment, name, opening.hall,
-             lists.count(len(there), "candidate"), below(others.get(opening.hall, [])),
+             joined([lists.count(len(there), "candidate"), *others.get(opening.hall, [])], "<br>"),
              table(["Name", "n:Desk"], [[names[each.number], each.sitting.desk] for each in lists.by_name(there)]))
         for opening, there in lists.halls(reading, session, asked)), "poster")
 
@@ -157,7 +148,8 @@ def chart(reading: Reading, session: str, asked: Collection[str] = ()) -> str:
         raise NotDrawn(unknown, [code for code in codes if code in rows])
     return of_desks(reading, session, "Seating charts", (
         html(CHART, "chart wide" if stand.across > UPRIGHT else "chart", stand.across, text(opening.title),
-             opening.hall, name, moment, lists.count(len(there), "candidate"), below(others.get(opening.hall, [])),
+             opening.hall, name, moment,
+             joined([lists.count(len(there), "candidate"), *others.get(opening.hall, [])], "<br>"),
              joined(drawn(opening.desks, there, stand, papers)))
         for opening, there in halls for stand in [rows[opening.hall]]), "chart")
 
@@ -224,9 +216,9 @@ def doors(reading: Reading, session: str, asked: Collection[str] = ()) -> str:
 
 def elsewhere(made: Mapping[str, sqlite3.Row], starts: Mapping[str, int], sits: Sitting, all_of: Collection[Sitting]
               ) -> Iterator[str]:
-    """What invigilators must know, from all that somebody sits: what they sit in another session at that time; and where
-    a second sitting is behind this one, or is this one: in between somebody stays with them. Of each paper that was
-    made for second sittings its own one is given."""
+    """What invigilators must know, from all that somebody sits: what they sit in another session at that time; and
+    where a second sitting is behind this one, or is this one: in between somebody stays with them. Of each paper that
+    was made for second sittings its own one is given."""
     for other in overlaps.beside(starts, sits, all_of):
         when = f"until {other.finish}" if starts[other.session] < starts[sits.session] else f"from {other.start}"
         yield f"sits {other.session} {when}, in {other.hall or 'no hall yet'}"

@@ -23,8 +23,7 @@ COMPARED = 12  # sheets at most that the program prints too
 Sheets = dict[tuple[str, ...], list[str]]  # the lines of each sheet, by the words of its command
 
 
-def text(reading: Reading, session: str, lines: int, columns: int,
-         progress: Callable[[str, float], None]) -> str:
+def text(reading: Reading, session: str, lines: int, columns: int, progress: Callable[[str, float], None]) -> str:
     """All sheets, each page of at most so many lines of so many letters; a form feed stands between two pages. Raises
     `Trouble` where a sheet is not as the program prints it."""
     sheets = written(reading, facts.session_row(reading.rows, session))
