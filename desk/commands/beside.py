@@ -28,9 +28,9 @@ MOST_SLIPS = 5  # whose numbers a line names
 
 All of it from the day of the session on. Who was missing is no fact of the office: no seat changes by it. Zeros in
 front of a number may be left out; where one number is wrong nothing is noted. The paper is the one that the candidate
-was to sit, of a second sitting the paper that it was made of; one that they miss, since another is at the same time,
-is listed as not sat. Where nobody noted anything of a session, all who have a
-desk are listed as present, and a note says so; so does one of who was noted, and has left the session.
+was to sit, of a second sitting the paper that it was made of; one that they miss, since another is at the same time, is
+listed as not sat. Where nobody noted anything of a session, all who have a desk are listed as present, and a note says
+so; so does one of who was noted, and has left the session.
 """)
 def absent(parser: ArgumentParser) -> None:
     from exam_desk import facts, lists, notebook
@@ -41,18 +41,16 @@ def absent(parser: ArgumentParser) -> None:
     if notes and session is None:
         parser.error("name a session")
     with command.reading() as reading:
-        office, codes = reading.office, [session]
+        codes = [session] if session else [code for code, day, _ in facts.sessions(reading.rows)
+                                           if not notebook.is_to_come(reading.office, day)]
         if notes:
-            notebook.note_absent(office, reading, session, missing, there, given.nobody)
+            notebook.note_absent(reading.office, reading, session, missing, there, given.nobody)
             noted, members = notebook.absences(reading, session), len(reading.members(session))
             text = f"{lists.count(len(noted.members) if noted else 0, 'candidate')} absent of {members:,}\n"
         else:
-            if session is None:
-                codes = [code for code, day, _ in facts.sessions(reading.rows) if not notebook.is_to_come(office, day)]
             text = notebook.attendance(reading, codes)
-        warnings = [line for code in codes for line in beside_list(reading, code, [] if notes else codes)]
-    for line in warnings:
-        command.warn(line)
+        for line in (line for code in codes for line in beside_list(reading, code, [] if notes else codes)):
+            command.warn(line)
     command.say(text)
 
 
@@ -156,9 +154,9 @@ def compared(reading: Reading, session: str) -> list[str]:
     if found.holds():
         return ["the papers are up to date"]
     shared = (f"{what} {old or '-'} -> {new or '-'}" for what, old, new in found.others)
-    again, slips = on_paper.in_words(found.again), found.slips()
-    if 0 < len(slips) <= MOST_SLIPS:
-        again += f" (`office slips {session} --desks --only {' --only '.join(slips)}`)"
+    again = on_paper.in_words(found.again)
+    if 0 < len(found.slips) <= MOST_SLIPS:
+        again += f" (`office slips {session} --desks --only {' --only '.join(found.slips)}`)"
     empty = on_paper.in_words(dict.fromkeys(on_paper.BY_HALL, found.empty)) if found.empty else ""
     return [*shared, *map(otherwise, found.moves), f"to print again: {again}",
             *([f"to take away, as nobody sits there now: {empty}"] if empty else [])]

@@ -75,11 +75,6 @@ def notes(office: Office) -> dict[str, str]:
     return read(office, "notes", dict[str, str](), is_text)
 
 
-def for_candidate(note: str) -> str:
-    """What of a note a slip shows, which goes home."""
-    return STAFF.sub("", note)
-
-
 def take_notes(office: Office, new: Mapping[str, str]) -> Counter[str]:
     """Keeps notes by number; an empty text takes a note away. How many are added, changed, removed, and the same."""
     with alone(office) as folder:

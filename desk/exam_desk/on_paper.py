@@ -56,8 +56,8 @@ class Move(NamedTuple):
         """What is another, as ON has it."""
         if not (self.printed and self.now):
             return {"hall" if self.now else "left"}
-        desks = zip(Desk._fields, self.printed.desk, self.now.desk)
-        return {what for what, was, now in [*desks, *self.others()] if was != now}
+        was, now = ((*line.desk, *line.shown) for line in (self.printed, self.now))
+        return {what for what, old, new in zip((*Desk._fields, *SHOWN), was, now) if old != new}
 
 
 class Paper(NamedTuple):
@@ -75,15 +75,10 @@ class Compared(NamedTuple):
     again: Papers  # to print again
     halls: list[str]  # whose papers are out of date, by code
     empty: list[str]  # of these, where nobody sits now
+    slips: list[str]  # the numbers of those whose slips alone are out of date; none where all are, or no slip is
 
     def holds(self) -> bool:
         return not (self.moves or self.others)
-
-    def slips(self) -> list[str]:
-        """The numbers of those whose slips alone are out of date; none where all are, or no slip is."""
-        if any("slips" in shown_on(what) for what, *_ in self.others):
-            return []
-        return [move.number for move in self.moves if any("slips" in ON[kind] for kind in move.kinds())]
 
 
 def noted(office: Office, session: str) -> Paper:
@@ -95,10 +90,6 @@ def noted(office: Office, session: str) -> Paper:
     lines = {number: Line(Desk(hall, desk), shown if len(shown) == len(SHOWN) else [""] * len(SHOWN))
              for number, (hall, desk, *shown) in found.items() if number not in common}
     return Paper(lines, common, who, "".join(when))
-
-
-def desks(office: Office, session: str) -> dict[str, Desk]:
-    return {number: line.desk for number, line in noted(office, session).lines.items()}
 
 
 def lines_of(reading: Reading, session: str, members: Iterable[Member]) -> dict[str, Line]:
@@ -122,24 +113,17 @@ def shared(reading: Reading, session: str) -> dict[str, str]:
     return {**found, OF_SCHOOL: notebook.school_name(reading.office)}
 
 
-def shown_on(what: str) -> list[str]:
-    """The papers that show something that lines share."""
-    return ON[what if what in ON else what.partition(OF)[2]].split()
-
-
 def out_of_date(moves: Iterable[Move], others: Iterable[str], lines: Mapping[str, Line]) -> Papers:
     """The papers that show of somebody, or of what lines share, what is another, each with its halls."""
     met = {(paper, line.desk.hall) for move in moves for kind in move.kinds() for paper in ON[kind].split()
            for line in (move.printed, move.now) if line}
-    met |= {(paper, line.desk.hall) for what in others for paper in shown_on(what) for line in lines.values()
-            if what.partition(OF)[0] in (SCHOOL, line.desk.hall, line.shown[1])}
+    for what in others:
+        code, _, part = what.partition(OF)
+        met |= {(paper, line.desk.hall) for paper in ON.get(what, ON.get(part, "")).split() for line in lines.values()
+                if code in (SCHOOL, line.desk.hall, line.shown[1])}
     found = {paper: sorted(hall for each, hall in met if each == paper) for paper in ALL.split()}
     return {paper: [*filter(None, halls)] if paper in BY_HALL else [] for paper, halls in found.items()
             if (any(halls) if paper in BY_HALL else halls)}
-
-
-def halls_of(papers: Papers) -> list[str]:
-    return sorted({hall for halls in papers.values() for hall in halls})
 
 
 def by_halls(papers: Papers) -> list[tuple[list[str], list[str]]]:
@@ -197,11 +181,13 @@ def compared(reading: Reading, session: str) -> Compared | None:
     moves = [Move(number, names.get(number, ""), before.lines.get(number), now.get(number))
              for number in moved(before.lines, now)]
     common = others(before.shared, shared(reading, session))
-    papers, used = out_of_date(moves, (what for what, *_ in common), now), {line.desk.hall for line in now.values()}
+    shares = [what for what, *_ in common]
+    papers, used = out_of_date(moves, shares, now), {line.desk.hall for line in now.values()}
     again = {paper: [hall for hall in halls if hall in used] for paper, halls in papers.items()}
     again = {paper: halls for paper, halls in again.items() if halls or paper not in BY_HALL}
-    halls = halls_of(papers)
-    return Compared(before, moves, common, again, halls, [hall for hall in halls if hall not in used])
+    halls, is_all = sorted({*sum(papers.values(), [])}), "slips" in out_of_date([], shares, now)
+    slips = [move.number for move in moves if not is_all and any("slips" in ON[kind] for kind in move.kinds())]
+    return Compared(before, moves, common, again, halls, [hall for hall in halls if hall not in used], slips)
 
 
 def moved(before: Mapping[str, Line], now: Mapping[str, Line]) -> list[str]:

@@ -72,7 +72,7 @@ def lead(endpoint: str, said: Markup | None = None, kind: str = "good", **values
 def tell_papers(papers: Mapping[str, on_paper.Papers]) -> None:
     """Has the next page say which printed papers are out of date now, by session."""
     g.visit.said += [("bad", text("The papers of {session} are out of date: {halls}", session=session,
-                                  halls=", ".join(on_paper.halls_of(found)) or text("no hall")))
+                                  halls=", ".join(sorted({*sum(found.values(), [])})) or text("no hall")))
                      for session, found in papers.items()]
 
 

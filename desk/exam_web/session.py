@@ -33,13 +33,12 @@ class Sheet(NamedTuple):
     """A paper of a session, and the function that makes it."""
     title: str
     page: Callable[..., str]  # of a reading, a session and, where it is by hall, the halls: all where none is named
-    by_hall: bool = False
 
 
 SHEETS = {
-    "doors": Sheet("Invigilators' sheets to sign", papers.doors, True),
-    "poster": Sheet("Posters for doors", papers.poster, True),
-    "cards": Sheet("Desk cards", papers.cards, True), "chart": Sheet("Seating charts", papers.chart, True),
+    "doors": Sheet("Invigilators' sheets to sign", papers.doors),
+    "poster": Sheet("Posters for doors", papers.poster),
+    "cards": Sheet("Desk cards", papers.cards), "chart": Sheet("Seating charts", papers.chart),
     "slips": Sheet("Slips for candidates, with desk numbers", lambda reading, session: slips.page(
         reading, slips.Choice(sessions=[session], desks=True))),
     "board": Sheet("Notice board by name", papers.board), "counts": Sheet("Copies of each paper", papers.counts),
@@ -197,7 +196,7 @@ def sheet(code: str, sheet: str, hall: Sequence[str] = ()) -> str:
     shown, halls = Session(code), hall or request.args.getlist("hall")
     made = SHEETS.get(sheet) or abort(404)
     try:
-        return styled(made.page(view().reading, code, *([halls] if made.by_hall else [])))
+        return styled(made.page(view().reading, code, *([halls] if sheet in on_paper.BY_HALL else [])))
     except papers.NotDrawn as trouble:
         asked = map(shown.opening, trouble.halls)
         return render_template("charts.html", s=shown.sums, halls=[(each, standing(each)) for each in asked], of=halls)

@@ -63,7 +63,7 @@ class Notebook(unittest.TestCase):
 
     def test_nothing_is_there_at_first(self):
         self.assertEqual((notebook.school_name(self.office), notebook.notes(self.office)), ("", {}))
-        self.assertEqual((on_paper.desks(self.office, "S1"), notebook.absent(self.office, "S1")), ({}, None))
+        self.assertEqual((on_paper.noted(self.office, "S1").lines, notebook.absent(self.office, "S1")), ({}, None))
         self.assertFalse(self.place.exists())
 
     def test_notes(self):
@@ -103,7 +103,8 @@ class Notebook(unittest.TestCase):
         desks = {"0000001": Desk("A", 1), "0000002": Desk("A", 2), "0000003": Desk("B", 1)}
         with notebook.alone(self.office) as folder:
             notebook.write(self.office, folder, "printed.S1", {number: [*desk, "0"] for number, desk in desks.items()})
-        self.assertEqual((on_paper.desks(self.office, "S1"), on_paper.desks(self.office, "S2")), (desks, {}))
+        self.assertEqual(({number: line.desk for number, line in on_paper.noted(self.office, "S1").lines.items()},
+                          on_paper.noted(self.office, "S2").lines), (desks, {}))
         now = {"0000002": Desk("A", 1), "0000003": Desk("B", 1), "0000004": Desk("C", 1)}
         self.assertEqual(on_paper.moved(desks, now), ["0000001", "0000002", "0000004"])
         self.assertEqual(on_paper.moved(desks, desks), [])
@@ -157,9 +158,9 @@ class Notebook(unittest.TestCase):
                 ("school", b"1", notebook.school_name), ("school", b"[]", notebook.school_name),
                 ("rows", b'{"GYM": [0, "down"]}', notebook.rows_of_halls),
                 ("rows", b'{"GYM": [1]}', notebook.rows_of_halls),
-                ("printed.S", b'{"0000001": [1, "GYM"]}', lambda office: on_paper.desks(office, "S")),
-                ("printed.S", b'{"GYM: hall title": ["\\ud800", 0]}', lambda office: on_paper.desks(office, "S")),
-                ("printed.S", b'{"0000001": ["GYM", 1, 2]}', lambda office: on_paper.desks(office, "S")),
+                ("printed.S", b'{"0000001": [1, "GYM"]}', lambda office: on_paper.noted(office, "S")),
+                ("printed.S", b'{"GYM: hall title": ["\\ud800", 0]}', lambda office: on_paper.noted(office, "S")),
+                ("printed.S", b'{"0000001": ["GYM", 1, 2]}', lambda office: on_paper.noted(office, "S")),
                 ("absent.S", b"[1]", lambda office: notebook.absent(office, "S")),
                 ("absent.S", b'{"0000001": "a"}', lambda office: notebook.absent(office, "S"))):
             (self.place / f"{name}.json").write_bytes(text)
@@ -482,7 +483,7 @@ class Commands(sample.SampleSchool):
             [letter, *_] = csv.DictReader(self.office("slips", "--csv", "--only", "1051").split("\n"))
             self.assertEqual(letter["note"], slip)
         for note in ("overstaff: a", "a staff member reads"):
-            self.assertEqual(notebook.for_candidate(note), note)
+            self.assertEqual(notebook.STAFF.sub("", note), note)
 
 
 if __name__ == "__main__":

@@ -42,7 +42,6 @@ class Rows(unittest.TestCase):
         for part in parts:
             self.assertLessEqual(sum(heights[part]) + 120 * (part is parts[-1]), 200)
         self.assertEqual([len(heights[part]) for part in parts], [13, 13, 14, 13, 6, 1])
-        self.assertEqual([papers.parted([10] * 21, 200, 15)[place] for place in (0, 1)], [slice(0, 12), slice(12, None)])
 
 
 class Posters(sample.SampleSchool):

@@ -70,7 +70,8 @@ def when(reading: Reading, session: str) -> Markup:
 
 def of_desks(reading: Reading, session: str, title: str, sheets: Iterable[Markup], name: str) -> str:
     """A document of sheets on who has a desk in a session, each on pages of its own; or why there is none."""
-    found, people = joined(html("<div class=sheet>{}</div>\n", sheet) for sheet in sheets), len(reading.members(session))
+    found = joined(html("<div class=sheet>{}</div>\n", sheet) for sheet in sheets)
+    people = len(reading.members(session))
     why = html("{}, none has a desk: <code>office why {}</code> says why", lists.count(people, "candidate"), session)
     none = html("<h2>{}{}</h2>\n<p>{}</p>\n", school(reading.office, "<br>"), when(reading, session),
                 why if people else "nobody is entered")
@@ -85,14 +86,6 @@ def desk(member: Member, before: Mapping[str, Line]) -> Markup:
         return safe(now.desk)
     was = f"was {old.desk}" if old.hall == now.hall else f"was {old.hall} {old.desk}"
     return html("{} <small>{}</small>", now.desk, was if old.hall else "new")
-
-
-def finish(member: Member, before: Mapping[str, Line], is_noted: bool) -> Markup:
-    """The finish of a candidate; below it the one that was printed where that is another, and a word on a note."""
-    now, line = member.sitting.finish, before.get(member.number)
-    old = line.shown[SHOWN.index("finish")] if line else ""
-    below = [f"was {old}"] * (old not in ("", now)) + [LATER] * is_noted
-    return joined([now, *(html("<small>{}</small>", each) for each in below)], "<br>")
 
 
 def named(members: Collection[Member]) -> dict[str, Markup]:
@@ -251,8 +244,12 @@ def of_door(heading: Markup, titles: Mapping[str, Markup], opening: facts.Openin
 
 def row_of(member: Member, papers: Mapping[str, Markup], told: Iterable[str], printed: Mapping[str, Line],
            is_noted: bool) -> Row:
-    """The row of a candidate, as high as its highest cell is, or a signature."""
-    paper, until = papers[member.sitting.paper], finish(member, printed, is_noted)
+    """The row of a candidate, as high as its highest cell is, or a signature. Below the finish stand the one that was
+    printed where that is another, and a word on a note."""
+    paper, line, finish = papers[member.sitting.paper], printed.get(member.number), member.sitting.finish
+    old = line.shown[SHOWN.index("finish")] if line else ""
+    below = [f"was {old}"] * (old not in ("", finish)) + [LATER] * is_noted
+    until = joined([finish, *(html("<small>{}</small>", each) for each in below)], "<br>")
     arranged = [*filter(None, [lists.allowance(member.sitting)]), *told]
     height = 1 + LINE * max(lines([member.name], NAME), lines(arranged, ARRANGEMENT), len(paper.striptags().split()),
                             1 + until.count("<br>"))
@@ -279,7 +276,7 @@ def lines(texts: Iterable[str], room: float) -> int:
 
 
 def parted(heights: Sequence[float], room: float, below: float) -> list[slice]:
-    """Which rows stand on each page; below the last row there is so much room. The last two pages are as full."""
+    """Which rows stand on each page; below the last row there is so much room."""
     found, first, left = [], 0, room
     for place, height in enumerate(heights):
         needed = height + (below if place == len(heights) - 1 else 0)
@@ -287,10 +284,6 @@ def parted(heights: Sequence[float], room: float, below: float) -> list[slice]:
             found.append(slice(first, place))
             first, left = place, room
         left -= height
-    for place in range(first - 1, found[-1].start if found else first, -1):
-        if sum(heights[place:]) + below > sum(heights[found[-1].start:place]):
-            break
-        found[-1], first = slice(found[-1].start, place), place
     return [*found, slice(first, None)]
 
 

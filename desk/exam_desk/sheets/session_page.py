@@ -26,8 +26,6 @@ CARD = "<div class='card {}'><h3>{}</h3>{}</div>"
 EXPLANATION = ("<p>{} So every plan leaves at least {:,} of them without a desk, and no other plan seats more "
                "candidates than this one.</p><p>What would help: {}another hall that suits some of them.</p>")
 
-Part = tuple[str, int]  # of a bar: its kind and its length
-
 
 class Page:
     """A session as its page shows it."""
@@ -115,7 +113,7 @@ class Page:
     def balance(self) -> Markup:
         """Candidates, desks and unseated as three bars of one scale."""
         people, desks, lacking = len(self.shortage.candidates), self.shortage.desks, self.shortage.unseated
-        bars: dict[str, list[Part]] = {
+        bars: dict[str, list[tuple[str, int]]] = {
             count(people, "candidate"): [("listed", people)], count(desks, "desk"): [("taken", desks)],
             f"{lacking:,} unseated": [("none", desks), ("lacking", lacking)]}
         drawn = (html("<dt>{}</dt><dd>{}</dd>", label, bar(parts, people, label)) for label, parts in bars.items())
@@ -136,8 +134,8 @@ class Page:
         return html("<div class=cards>{}</div>", joined(cards))
 
 
-def bar(parts: Sequence[Part], whole: int, label: str) -> Markup:
-    """A bar of parts, drawn to the scale of the whole; SVG, since printers leave out backgrounds."""
+def bar(parts: Sequence[tuple[str, int]], whole: int, label: str) -> Markup:
+    """A bar of parts, each a kind and a length, to scale; SVG, since printers leave out backgrounds."""
     shapes, left = "", 0.0
     for kind, length in parts:
         width = 100 * length / whole

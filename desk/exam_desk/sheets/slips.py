@@ -16,7 +16,7 @@ from exam_desk.words import few, short_day
 HEADS = ["w:Day", "w:Time", "Paper", "Hall"]
 HEADER = ["number", "name", "session", "date", "start", "finish", "paper", "paper title", "hall", "hall title",
           "arrangement", "not sat", "also sat", "note", "group", "desk", "code"]
-MOST_GROUP_BYTES = 80
+GROUP = "group", 80  # the column of a file number,group, and how many bytes a group has at most
 # What is sat, the papers of its session that are missed, and those that are sat in other sessions at the same time.
 Sat = tuple[Sitting, list[str], list[str]]
 
@@ -35,11 +35,6 @@ class Slip(NamedTuple):
     group: str  # "" where they are in none
     note: str
     sat: list[Sat]
-
-
-def groups_of(content: bytes, path: str) -> dict[str, str]:
-    """The groups by number of a file `number,group`. Raises `Trouble` where it is none."""
-    return files.texts_by_number(content, path, "group", MOST_GROUP_BYTES)
 
 
 def beside_groups(reading: Reading, groups: Mapping[str, str]) -> Iterator[str]:
@@ -120,7 +115,7 @@ def slips_of(reading: Reading, choice: Choice) -> list[Slip]:
                 [each.paper for each in overlaps.beside(starts, sits, sittings.values())])
                for code, sits in sittings.items() if code in codes]
         if sat:
-            note = notebook.for_candidate(notes.get(person.number, ""))
+            note = notebook.STAFF.sub("", notes.get(person.number, ""))
             slips.append(Slip(person, choice.groups.get(person.number, ""), note, sat))
     numbers = {each.person.number for each in slips}
     if missing := [number for number in choice.only if number not in numbers]:
