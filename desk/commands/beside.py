@@ -10,50 +10,63 @@ from exam_desk.words import few
 
 if TYPE_CHECKING:
     from argparse import ArgumentParser
-    from collections.abc import Mapping
+    from collections.abc import Collection, Iterator, Mapping
 
-    from exam_desk.on_paper import Line, Move
+    from exam_desk.on_paper import Line, Move, Papers
     from exam_desk.reading import Reading
 
 MOST_BYTES = 1 << 16  # of numbers on standard input
-OF_HALLS, WHOLE = "sheet, poster, cards, chart of {}", "board, counts, slips"
+MOST_SLIPS = 5  # whose numbers a line names
 
 
-@command.named("""Notes who was missing in a session, and lists it for the exam board: absent SESSION [NUMBER .. | -]
+@command.named("""Notes who was missing in a session, and lists it for the exam board: absent [SESSION [NUMBER .. | -]]
 
     office absent MON-AM 0001051 0001060    notes two candidates as absent
     office absent MON-AM - <numbers.txt     as many as stand in a file, parted by spaces or lines
-    office absent MON-AM >board.csv         prints session, date, number, paper, and present, absent or no desk
+    office absent MON-AM >board.csv         prints session, date, number, paper, and present, absent, no desk or not sat
+    office absent >board.csv                of all sessions up to today
 
 All of it from the day of the session on. Who was missing is no fact of the office: no seat changes by it. Zeros in
 front of a number may be left out; where one number is wrong nothing is noted. The paper is the one that the candidate
-was to sit, of a second sitting the paper that it was made of. Where nobody noted anything of a session, all who have a
-desk are listed as present, and a note says so; so does one of who was noted, and has left the session.
+was to sit, of a second sitting the paper that it was made of; one that they miss, since another is at the same time, is
+listed as not sat. Where nobody noted anything of a session, all who have a desk are listed as present, and a note says
+so; so does one of who was noted, and has left the session.
 """)
 def absent(parser: ArgumentParser) -> None:
-    from exam_desk import lists, notebook, second_sitting
+    from exam_desk import facts, lists, notebook
     parser.add_argument("--there", metavar="NUMBER", nargs="+", default=[], help="who is not absent after all")
-    given = command.given(parser, "session", "number*", "--nobody: nobody was absent")
+    given = command.given(parser, "session?", "number*", "--nobody: nobody was absent")
     session, missing, there = given.session, numbers(given.number), numbers(given.there)
     notes = bool(given.number or given.there or given.nobody)
+    if notes and session is None:
+        parser.error("name a session")
     with command.reading() as reading:
+        codes = [session] if session else [code for code, day, _ in facts.sessions(reading.rows)
+                                           if not notebook.is_to_come(reading.office, day)]
         if notes:
-            notebook.note_absent(command.office(), reading, session, missing, there, given.nobody)
-        text, noted = notebook.attendance(reading, session), notebook.absences(reading, session)
-        members = len(reading.members(session))
-        later = [(first["code"], second["session"], len(reading.members(second["session"])))
-                 for first, second in second_sitting.pairs(reading.rows) if first["session"] == session]
-    if notes:
-        text = f"{lists.count(len(noted.members) if noted else 0, 'candidate')} absent of {members:,}\n"
-    elif noted is None:
-        command.warn(f"NOTE nobody has noted who was absent in {session}: all who have a desk are listed as present; "
-                     f"`office absent {session} --nobody` notes that nobody was")
-    if noted and noted.gone:
-        command.warn(f"NOTE the exam board's list lacks who is noted as absent and has left {session}: "
-                     f"{few(noted.gone)}")
-    for paper, code, count in later if not notes else ():
-        command.warn(f"NOTE {paper} is sat in {code} too: `office absent {code}` has {lists.count(count, 'candidate')}")
+            notebook.note_absent(reading.office, reading, session, missing, there, given.nobody)
+            noted, members = notebook.absences(reading, session), len(reading.members(session))
+            text = f"{lists.count(len(noted.members) if noted else 0, 'candidate')} absent of {members:,}\n"
+        else:
+            text = notebook.attendance(reading, codes)
+        for line in (line for code in codes for line in beside_list(reading, code, [] if notes else codes)):
+            command.warn(line)
     command.say(text)
+
+
+def beside_list(reading: Reading, session: str, listed: Collection[str]) -> Iterator[str]:
+    """What the list for the exam board does not say of a session, and where else its papers are sat."""
+    from exam_desk import lists, notebook, second_sitting
+    noted = notebook.absences(reading, session)
+    if noted is None and listed:
+        yield (f"NOTE nobody has noted who was absent in {session}: all who have a desk are listed as present; "
+               f"`office absent {session} --nobody` notes that nobody was")
+    if noted and noted.gone:
+        yield f"NOTE the exam board's list lacks who is noted as absent and has left {session}: {few(noted.gone)}"
+    for first, second in second_sitting.pairs(reading.rows) if listed else ():
+        if first["session"] == session and (code := second["session"]) not in listed:
+            count = lists.count(len(reading.members(code)), "candidate")
+            yield f"NOTE {first['code']} is sat in {code} too: `office absent {code}` has {count}"
 
 
 def numbers(words: list[str]) -> list[str]:
@@ -91,13 +104,13 @@ def notes(parser: ArgumentParser) -> None:
     texts_given = files.texts_by_number(files.read(given.file), given.file, "text", notebook.MOST_NOTE_BYTES, known)
     noted = notebook.take_notes(office, texts_given)
     command.say(" ".join(f"{word} {noted[word]}" for word in ("added", "changed", "removed", "same")) + "\n")
-    tell_papers(on_paper.with_other_notes(office, texts_given))
+    tell_papers(on_paper.otherwise(office, texts_given, {}))
 
 
-def tell_papers(halls: Mapping[str, list[str]]) -> None:
+def tell_papers(papers: Mapping[str, Papers]) -> None:
     """Says on standard error which printed papers are out of date, by session."""
     from exam_desk import effects
-    for line in effects.noted(halls):
+    for line in effects.noted(papers):
         print(line, file=sys.stderr)
 
 
@@ -133,18 +146,20 @@ def of_each(reading: Reading) -> list[str]:
 
 
 def compared(reading: Reading, session: str) -> list[str]:
-    """Who is not as on paper, and the halls whose paper is out of date."""
+    """Who is not as on paper, and which papers are out of date, of which halls."""
     from exam_desk import on_paper
     found = on_paper.compared(reading, session)
     if found is None:
         raise Trouble(f"nobody noted which desks are printed for {session}; `office printed {session}` does")
     if found.holds():
         return ["the papers are up to date"]
-    halls, empty = ", ".join(hall for hall in found.halls if hall not in found.empty), ", ".join(found.empty)
-    again = "; ".join([*([OF_HALLS.format(halls)] if halls else []), WHOLE])
     shared = (f"{what} {old or '-'} -> {new or '-'}" for what, old, new in found.others)
+    again = on_paper.in_words(found.again)
+    if 0 < len(found.slips) <= MOST_SLIPS:
+        again += f" (`office slips {session} --desks --only {' --only '.join(found.slips)}`)"
+    empty = on_paper.in_words(dict.fromkeys(on_paper.BY_HALL, found.empty)) if found.empty else ""
     return [*shared, *map(otherwise, found.moves), f"to print again: {again}",
-            *([f"to take away, as nobody sits there now: {OF_HALLS.format(empty)}"] if empty else [])]
+            *([f"to take away, as nobody sits there now: {empty}"] if empty else [])]
 
 
 def otherwise(move: Move) -> str:
@@ -180,7 +195,7 @@ def rows(parser: ArgumentParser) -> None:
         if given.hall not in titles:
             raise Trouble(f"the office has no hall {given.hall}; it has {few(sorted(titles), 20)}")
         notebook.keep_rows(office, given.hall, asked := notebook.Rows(given.across or 0, given.running))
-        tell_papers(on_paper.with_another(office, on_paper.OF_ROWS.format(given.hall), asked))
+        tell_papers(on_paper.otherwise(office, {}, {on_paper.OF_ROWS.format(given.hall): str(asked)}))
     kept = sorted(notebook.rows_of_halls(office).items())
     command.say_lines([f"{hall}: rows of {rows.across}, {rows.running}" for hall, rows in kept] or ["nothing is kept"])
 
@@ -200,6 +215,6 @@ def school(parser: ArgumentParser) -> None:
         notebook.set_school_name(office, given.page, notebook.PAGE)
     if given.name is not None:
         notebook.set_school_name(office, given.name)
-        tell_papers(on_paper.with_another(office, on_paper.OF_SCHOOL, given.name))
+        tell_papers(on_paper.otherwise(office, {}, {on_paper.OF_SCHOOL: given.name}))
     address = notebook.school_name(office, notebook.PAGE)
     command.say_lines([notebook.school_name(office) or "no name", *filter(None, [address])])

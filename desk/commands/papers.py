@@ -146,7 +146,7 @@ def slips(parser: ArgumentParser) -> None:
     parser.add_argument("--order", metavar="FILE.csv", help="number,group: by group, each on pages of its own")
     given = command.given(parser, "session*", "--codes: with the access code", "--desks: with desk numbers",
                           "--csv: for a spreadsheet or the merge of letters")
-    groups = slips.groups_of(files.read(given.order), given.order) if given.order else {}
+    groups = files.texts_by_number(files.read(given.order), given.order, *slips.GROUP) if given.order else {}
     choice = slips.Choice(given.session, given.only, given.codes, given.desks, groups)
     make = slips.csv_text if given.csv else slips.page
     if choice.only:
@@ -179,9 +179,8 @@ def appeals_open(parser: ArgumentParser) -> None:
 
 BACKUP is a folder with the two files, the file itself, or the number of a copy. Who lost the desk comes first, then who
 lost a need, who sits another paper, in another hall, or at another time, who has another name, who misses other papers,
-and last whose desk alone is another. A line of these last ones begins with no !: they need not be told. In the CSV each
-value is in quotes, and a text that begins like a formula, or goes on like one behind a semicolon, has an apostrophe
-there, so that no spreadsheet calculates it.
+and last whose desk alone is another. A line of these last ones begins with no !: they need not be told. In the CSV an
+apostrophe stands in front of a text that a spreadsheet would take for a formula.
 """)
 def changes(parser: ArgumentParser) -> None:
     from exam_desk import telling
@@ -250,13 +249,15 @@ def check_shortage(parser: ArgumentParser) -> bool:
 Entries with seats, arrangements, and appeals with reasons and answers.
 """)
 def look(parser: ArgumentParser) -> None:
+    from exam_desk import facts
     from exam_desk.reading import of_few
     from exam_desk.sheets import texts
     parser.add_argument("words", nargs="*", metavar="NAME|NUMBER|SESSION")
     given = command.given(parser, "--codes: with the access code", "--clashes: who has two papers at once")
     if given.clashes:
         with command.reading() as reading:
-            lines = texts.papers_at_once(reading, given.words)
+            lines = [line for head in facts.sessions(reading.rows, given.words)
+                     for line in texts.papers_at_once(reading, head["code"])] or ["nobody has two papers at once"]
     elif given.words:
         asked = " ".join(given.words)
         lines = of_few(command.office(), lambda reading: texts.asked_lines(reading, asked, given.codes))

@@ -53,7 +53,8 @@ class Effects:
         self.over = {code: found for code, found in past.items() if code in known}
         self.past = [code for code in past if code not in known]  # new sessions
         self.opened, self.shut = opened(before, after), shut(before, after)
-        self.out_of_date = out_of_date(before, after, self.touched)
+        self.out_of_date = {code: papers for code, people in self.touched.items()
+                            if (papers := out_of_date(before, after, code, people))}
         self.codes = by_name(after, [key for key, column, *_ in telling.other_values(before, after, ["candidates"])
                                      if column == "code"])
 
@@ -89,27 +90,19 @@ def shut(before: Reading, after: Reading) -> list[sqlite3.Row]:
     return [row for key, row in openings(after).items() if row["until"] <= row["start"] and was.get(key) != row]
 
 
-def out_of_date(before: Reading, after: Reading, sessions: Touched) -> dict[str, list[str]]:
-    """By session the halls whose papers are noted as printed and hold no longer, of those whom a change can meet; no
-    hall where it meets people without a desk alone."""
-    found = {code: halls_out_of_date(before, after, code, people) for code, people in sessions.items()}
-    return {code: sorted(halls - {""}) for code, halls in found.items() if halls}
-
-
-def halls_out_of_date(before: Reading, after: Reading, session: str, people: Collection[str] | None) -> set[str]:
-    """The halls of those of these people, or of all, who are otherwise than before and not as on paper, now and there,
-    and those with what lines share and is another; "" for who has no desk."""
+def out_of_date(before: Reading, after: Reading, session: str, people: Collection[str] | None) -> on_paper.Papers:
+    """The papers that are noted as printed and show those of these people, or of all, who are otherwise than before
+    and not as on paper, or what lines share and is another."""
     paper = on_paper.noted(after.office, session)
     if not paper.lines:
-        return set()
+        return {}
     asked = [(reading, facts.entered(reading.rows, session, among=people)) for reading in (before, after)]
     then, now = (on_paper.lines_of(reading, session, reading.members(session, numbers)) for reading, numbers in asked)
-    lines = (line for number in on_paper.moved(then, now) if paper.lines.get(number) != now.get(number)
-             for line in (paper.lines.get(number), now.get(number)))
+    moves = [on_paper.Move(number, "", paper.lines.get(number), now.get(number))
+             for number in on_paper.moved(then, now) if paper.lines.get(number) != now.get(number)]
     was, shared = (on_paper.shared(reading, session) for reading in (before, after))
     others = (what for what, *_ in on_paper.others(paper.shared, shared) if was.get(what) != shared[what])
-    halls = (on_paper.halls_with(what, paper.lines) for what in others)
-    return {line.desk.hall for line in lines if line}.union(*halls)
+    return on_paper.out_of_date(moves, others, paper.lines)
 
 
 def new_clashes(before: Reading, after: Reading, sessions: Touched) -> Iterator[tuple[str, Person, list[str]]]:
@@ -222,14 +215,14 @@ def groups(effects: Effects) -> Groups:
         PRINTED: on_old_paper(effects.out_of_date)})
 
 
-def on_old_paper(halls: Mapping[str, list[str]]) -> list[Met]:
-    return [Met(code, f"for {', '.join(found) or 'no hall'}",
-                f"afterwards `office {LISTED_BY[PRINTED][0].format(code)}`") for code, found in halls.items()]
+def on_old_paper(papers: Mapping[str, on_paper.Papers]) -> list[Met]:
+    return [Met(code, f"({on_paper.in_words(found)})", f"afterwards `office {LISTED_BY[PRINTED][0].format(code)}`")
+            for code, found in papers.items()]
 
 
-def noted(halls: Mapping[str, list[str]]) -> list[str]:
+def noted(papers: Mapping[str, on_paper.Papers]) -> list[str]:
     """As `done`, of the printed papers that something beside the office makes out of date."""
-    met = grouped({}, {PRINTED: on_old_paper(halls)})
+    met = grouped({}, {PRINTED: on_old_paper(papers)})
     return brief(met) + listing(met, 1)
 
 

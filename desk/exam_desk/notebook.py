@@ -75,11 +75,6 @@ def notes(office: Office) -> dict[str, str]:
     return read(office, "notes", dict[str, str](), is_text)
 
 
-def for_candidate(note: str) -> str:
-    """What of a note a slip shows, which goes home."""
-    return STAFF.sub("", note)
-
-
 def take_notes(office: Office, new: Mapping[str, str]) -> Counter[str]:
     """Keeps notes by number; an empty text takes a note away. How many are added, changed, removed, and the same."""
     with alone(office) as folder:
@@ -182,16 +177,21 @@ def note_absent(office: Office, reading: Reading, session: str, missing: Iterabl
     return keep_absent(office, session, missing, there, nobody)
 
 
-def attendance(reading: Reading, session: str) -> str:
-    """A line for each member, by paper, as CSV. The paper is the one that the candidate was to sit, by the code which
-    the exam board knows. Who has no desk cannot have been present. Raises `Trouble` before the day of the session."""
+def attendance(reading: Reading, sessions: Iterable[str]) -> str:
+    """A line for each member of the sessions and each paper that they are entered for, by paper, as CSV. The code is
+    the one which the exam board knows. Who has no desk cannot have been present. Raises `Trouble` before the day of a
+    session."""
     from exam_desk.second_sitting import own_code  # here, since it makes changes, whose copies have this notebook
-    day = day_of(reading, session)
-    missing, members = absent(reading.office, session) or set(), reading.members(session)
-    codes = {paper: own_code(reading.rows, paper) for paper in {member.sitting.paper for member in members}}
-    rows = sorted((codes[sits.paper], number, "absent" if number in missing else "present" if sits.hall else "no desk")
-                  for number, _, sits in members)
-    return files.written([ATTENDANCE, *([session, day, number, paper, attended] for paper, number, attended in rows)])
+    rows = [ATTENDANCE]
+    for session in sessions:
+        day, missing = day_of(reading, session), absent(reading.office, session) or set()
+        found = [(sits.paper, number, "absent" if number in missing else "present" if sits.hall else "no desk")
+                 for number, _, sits in reading.members(session)]
+        found += [(paper, number, "not sat") for number, papers in reading.clashes(session).items() for paper in papers]
+        codes = {paper: own_code(reading.rows, paper) for paper, *_ in found}
+        rows += [[session, day, number, paper, attended] for paper, number, attended in
+                 sorted((codes[paper], *rest) for paper, *rest in found)]
+    return files.written(rows)
 
 
 def is_text(part: object) -> bool:

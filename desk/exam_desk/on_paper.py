@@ -1,5 +1,6 @@
 """What papers of a session were printed, as somebody noted it, and what of it is otherwise since then."""
 import datetime
+import itertools
 from collections.abc import Iterable, Mapping
 from typing import Any, NamedTuple
 
@@ -11,6 +12,15 @@ NOTED = "noted"  # beside the lines of what is printed: by whom, how many, and w
 SHOWN = ["name", "paper", "date", "start", "finish", "needs", "extra", "misses", "note"]
 SCHOOL, OF = "school", ": "  # where others have a code; between a code and what is shown of it
 OF_SCHOOL, OF_ROWS = f"{SCHOOL}{OF}name", f"{{}}{OF}rows"  # what lines share of the school, and of a hall
+ALL = "doors poster cards chart board counts slips"  # papers, by the commands that print them
+BY_HALL = ALL.split()[:4]
+ON = {  # which papers show what
+    "hall": ALL, "left": "doors poster cards chart board counts", "desk": "doors poster cards chart board slips",
+    "name": "doors poster cards chart board slips", "paper": "doors cards chart counts slips", "date": ALL,
+    "start": ALL, "finish": "doors counts slips", "needs": "doors slips", "extra": "doors slips",
+    "misses": "doors slips", "note": "doors slips", "paper title": "doors cards counts slips", "hall title": ALL,
+    "desks": "doors chart", "open until": "doors", "rows": "chart", OF_SCHOOL: "doors poster chart board counts slips"}
+Papers = dict[str, list[str]]  # which are out of date, each with its halls; none where it is of the whole session
 
 
 class Desk(NamedTuple):
@@ -38,6 +48,13 @@ class Move(NamedTuple):
             return []
         return [each for each in zip(SHOWN, self.printed.shown, self.now.shown) if each[1] != each[2]]
 
+    def kinds(self) -> set[str]:
+        """What is another, as ON has it."""
+        if not (self.printed and self.now):
+            return {"hall" if self.now else "left"}
+        was, now = ((*line.desk, *line.shown) for line in (self.printed, self.now))
+        return {what for what, old, new in zip((*Desk._fields, *SHOWN), was, now) if old != new}
+
 
 class Paper(NamedTuple):
     """What was printed for a session."""
@@ -51,8 +68,10 @@ class Compared(NamedTuple):
     paper: Paper
     moves: list[Move]  # by number
     others: list[tuple[str, str, str]]  # what lines share and is another: what, its value on paper, and now
+    again: Papers  # to print again
     halls: list[str]  # whose papers are out of date, by code
     empty: list[str]  # of these, where nobody sits now
+    slips: list[str]  # the numbers of those whose slips alone are out of date; none where all are, or no slip is
 
     def holds(self) -> bool:
         return not (self.moves or self.others)
@@ -67,10 +86,6 @@ def noted(office: Office, session: str) -> Paper:
     lines = {number: Line(Desk(hall, desk), shown if len(shown) == len(SHOWN) else [""] * len(SHOWN))
              for number, (hall, desk, *shown) in found.items() if number not in common}
     return Paper(lines, common, who, "".join(when))
-
-
-def desks(office: Office, session: str) -> dict[str, Desk]:
-    return {number: line.desk for number, line in noted(office, session).lines.items()}
 
 
 def lines_of(reading: Reading, session: str, members: Iterable[Member]) -> dict[str, Line]:
@@ -93,10 +108,27 @@ def shared(reading: Reading, session: str) -> dict[str, str]:
     return {**found, OF_SCHOOL: notebook.school_name(reading.office)}
 
 
-def halls_with(what: str, lines: Mapping[str, Line]) -> set[str]:
-    """The halls whose papers show something that lines share; "" for who has no desk."""
-    code = what.partition(OF)[0]
-    return {line.desk.hall for line in lines.values() if code in (SCHOOL, line.desk.hall, line.shown[1])}
+def out_of_date(moves: Iterable[Move], others: Iterable[str], lines: Mapping[str, Line]) -> Papers:
+    """The papers that show of somebody, or of what lines share, what is another, each with its halls."""
+    met = {(paper, line.desk.hall) for move in moves for kind in move.kinds() for paper in ON[kind].split()
+           for line in (move.printed, move.now) if line}
+    for what in others:
+        code, _, part = what.partition(OF)
+        met |= {(paper, line.desk.hall) for paper in ON.get(what, ON.get(part, "")).split() for line in lines.values()
+                if code in (SCHOOL, line.desk.hall, line.shown[1])}
+    found = {paper: sorted(hall for each, hall in met if each == paper) for paper in ALL.split()}
+    return {paper: [*filter(None, halls)] if paper in BY_HALL else [] for paper, halls in found.items()
+            if (any(halls) if paper in BY_HALL else halls)}
+
+
+def by_halls(papers: Papers) -> list[tuple[list[str], list[str]]]:
+    """The papers of the same halls together, with these halls."""
+    return [([*found], halls) for halls, found in itertools.groupby(papers, papers.__getitem__)]
+
+
+def in_words(papers: Papers) -> str:
+    return "; ".join(", ".join(found) + (f" of {', '.join(halls)}" if halls else "")
+                     for found, halls in by_halls(papers))
 
 
 def others(before: Mapping[str, str], now: Mapping[str, str]) -> list[tuple[str, str, str]]:
@@ -104,23 +136,15 @@ def others(before: Mapping[str, str], now: Mapping[str, str]) -> list[tuple[str,
     return [(what, old, now[what]) for what, old in sorted(before.items()) if now.get(what, old) != old]
 
 
-def all_noted(office: Office) -> dict[str, Paper]:
-    """What was printed, by session."""
-    return {code: noted(office, code) for code in notebook.sessions_with(office, "printed")}
-
-
-def with_other_notes(office: Office, notes: Mapping[str, str]) -> dict[str, list[str]]:
-    """By session the halls of those of whom other notes are on paper than these by number."""
-    found = {code: {line.desk.hall for number, line in paper.lines.items()
-                    if line.shown[-1] != notes.get(number, line.shown[-1])}
-             for code, paper in all_noted(office).items()}
-    return {code: sorted(halls - {""}) for code, halls in found.items() if halls}
-
-
-def with_another(office: Office, what: str, value: object) -> dict[str, list[str]]:
-    """By session the halls whose papers show another value of what their lines share."""
-    return {code: sorted(halls_with(what, paper.lines) - {""}) for code, paper in all_noted(office).items()
-            if paper.shared.get(what, str(value)) != str(value)}
+def otherwise(office: Office, notes: Mapping[str, str], common: Mapping[str, str]) -> dict[str, Papers]:
+    """By session the papers that show other notes by number, or other values of what their lines share, than these."""
+    found = dict[str, Papers]()
+    for code in notebook.sessions_with(office, "printed"):
+        paper = noted(office, code)
+        moves = (Move(number, "", line, line._replace(shown=[*line.shown[:-1], notes[number]]))
+                 for number, line in paper.lines.items() if number in notes)
+        found[code] = out_of_date(moves, (what for what, *_ in others(paper.shared, common)), paper.lines)
+    return {code: papers for code, papers in found.items() if papers}
 
 
 def note(office: Office, reading: Reading, session: str) -> tuple[int, str]:
@@ -152,9 +176,13 @@ def compared(reading: Reading, session: str) -> Compared | None:
     moves = [Move(number, names.get(number, ""), before.lines.get(number), now.get(number))
              for number in moved(before.lines, now)]
     common = others(before.shared, shared(reading, session))
-    halls = {line.desk.hall for move in moves for line in (move.now, move.printed) if line}
-    halls = halls.union(*(halls_with(what, now) for what, *_ in common)) - {""}
-    return Compared(before, moves, common, sorted(halls), sorted(halls - {line.desk.hall for line in now.values()}))
+    shares = [what for what, *_ in common]
+    papers, used = out_of_date(moves, shares, now), {line.desk.hall for line in now.values()}
+    again = {paper: [hall for hall in halls if hall in used] for paper, halls in papers.items()}
+    again = {paper: halls for paper, halls in again.items() if halls or paper not in BY_HALL}
+    halls, is_all = sorted({*sum(papers.values(), [])}), "slips" in out_of_date([], shares, now)
+    slips = [move.number for move in moves if not is_all and any("slips" in ON[kind] for kind in move.kinds())]
+    return Compared(before, moves, common, again, halls, [hall for hall in halls if hall not in used], slips)
 
 
 def moved(before: Mapping[str, Line], now: Mapping[str, Line]) -> list[str]:

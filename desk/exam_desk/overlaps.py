@@ -132,10 +132,10 @@ def starts(reading: Reading) -> dict[str, int]:
     return dict(reading.rows.execute(SESSIONS).fetchall())
 
 
-def beside(starts: Mapping[str, int], sits: Sitting, all_of: Iterable[Sitting]) -> list[str]:
-    """The papers among all that a candidate sits that are in another session, and at the time of this sitting."""
+def beside(starts: Mapping[str, int], sits: Sitting, all_of: Iterable[Sitting]) -> list[Sitting]:
+    """What of all that a candidate sits is in another session, and at the time of this sitting."""
     now = starts[sits.session]
-    return [each.paper for each in all_of if each.session != sits.session
+    return [each for each in all_of if each.session != sits.session
             and starts[each.session] - now < length(sits) and now - starts[each.session] < length(each)]
 
 

@@ -10,7 +10,7 @@ from werkzeug.exceptions import HTTPException
 from werkzeug.routing import IntegerConverter
 from werkzeug.wrappers import Response
 
-from exam_desk import appeals, beside
+from exam_desk import appeals, beside, on_paper
 from exam_desk.telling import people_and_sittings
 from exam_desk.trouble import Trouble
 from exam_desk.words import FEATURES
@@ -46,7 +46,7 @@ def make(here: Desk) -> Flask:
     app.jinja_env.globals.update(
         FEATURES=FEATURES, MOST_CLASHES=proposals.MOST_CLASHES, RUNNING=session.RUNNING, SHEETS=session.SHEETS,
         has_handbook=office.HANDBOOK is not None, appeals=appeals, copy_key=proposals.copy_key,
-        last_day=appeals.to_decide, tally=people_and_sittings)
+        last_day=appeals.to_decide, tally=people_and_sittings, by_halls=on_paper.by_halls)
     for screen in SCREENS:
         app.register_blueprint(screen)
     app.before_request(begin)

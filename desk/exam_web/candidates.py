@@ -10,7 +10,7 @@ from markupsafe import Markup
 from werkzeug.datastructures import MultiDict
 from werkzeug.wrappers import Response
 
-from exam_desk import coding, effects, facts, lists, lodging, notebook, on_paper, overlaps, second_sitting
+from exam_desk import coding, effects, facts, files, lists, lodging, notebook, on_paper, overlaps, second_sitting
 from exam_desk.changing import Step
 from exam_desk.reading import Person
 from exam_desk.sheets import slips as slip_pages
@@ -92,7 +92,7 @@ def note(number: int) -> Response:
         raise Wrong(page_of, "note", note=wrong)
     notebook.take_notes(office(), {f"{number:07}": given})
     told = text("The note is kept.") if given else text("There is no note on this candidate.")
-    tell_papers(on_paper.with_other_notes(office(), {f"{number:07}": given}))
+    tell_papers(on_paper.otherwise(office(), {f"{number:07}": given}, {}))
     return lead("candidates.page", told, number=number, _anchor="note")
 
 
@@ -110,7 +110,7 @@ def slips(number: int | None = None) -> str:
     brought, groups = request.files.get("groups"), dict[str, str]()
     if brought:
         with at_field(("candidates.find", {}), "slips", "groups"):
-            groups = slip_pages.groups_of(brought.stream.read(), brought.filename or "")
+            groups = files.texts_by_number(brought.stream.read(), brought.filename or "", *slip_pages.GROUP)
         g.visit.said += [("", said(line)) for line in slip_pages.beside_groups(view().reading, groups)]
     of_one = [session for session in [request.form.get("session", "")] if session]
     choice = slip_pages.Choice(of_one, only, "codes" in request.form, bool(only or of_one), groups)

@@ -14,7 +14,7 @@ from markupsafe import Markup
 from werkzeug.datastructures import MultiDict
 from werkzeug.wrappers import Response
 
-from exam_desk import mistakes, private, typed
+from exam_desk import mistakes, on_paper, private, typed
 from exam_desk.trouble import Trouble
 from exam_web.desk import desk
 from exam_web.wording import said, text
@@ -66,10 +66,11 @@ def lead(endpoint: str, said: Markup | None = None, kind: str = "good", **values
     return redirect(url_for(endpoint, **values), 303)
 
 
-def tell_papers(halls: Mapping[str, list[str]]) -> None:
+def tell_papers(papers: Mapping[str, on_paper.Papers]) -> None:
     """Has the next page say which printed papers are out of date now, by session."""
     g.visit.said += [("bad", text("The papers of {session} are out of date: {halls}", session=session,
-                                  halls=", ".join(found) or text("no hall"))) for session, found in halls.items()]
+                                  halls=", ".join(sorted({*sum(found.values(), [])})) or text("no hall")))
+                     for session, found in papers.items()]
 
 
 def checked(page: Page, form: Form, **columns: str) -> dict[str, str]:

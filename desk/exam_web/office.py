@@ -133,7 +133,7 @@ def school() -> Response:
     name = request.form.get("name", "").strip()
     with at_field(("office.page", {}), "school", "name"):
         notebook.set_school_name(office(), name)
-    tell_papers(on_paper.with_another(office(), on_paper.OF_SCHOOL, name))
+    tell_papers(on_paper.otherwise(office(), {}, {on_paper.OF_SCHOOL: name}))
     told = text("The papers of the school have its name now.") if name else text("The school has no name now.")
     return lead("office.page", told, _anchor="school")
 

@@ -127,7 +127,8 @@ def clashes(coming: list[Sums]) -> Iterator[Attention]:
 def next_days(coming: list[Sums]) -> tuple[list[Sums], list[Sums]]:
     """The sessions of today and the next days of which papers are printed: as many as do not keep the page waiting, and
     the rest."""
-    near = [each for each in coming if days_until(each.day) <= URGENT and on_paper.desks(desk().office, each.code)]
+    near = [each for each in coming
+            if days_until(each.day) <= URGENT and on_paper.noted(desk().office, each.code).lines]
     everybody = view().count("SELECT count(*) FROM candidate")
     members = itertools.accumulate(each.members for each in near)
     few = sum(min(people, everybody) <= MOST_ASKED for people in members)
@@ -137,7 +138,7 @@ def next_days(coming: list[Sums]) -> tuple[list[Sums], list[Sums]]:
 def out_of_date(coming: list[Sums]) -> Iterator[Attention]:
     """Sessions whose printed papers are no longer right, as `office printed` says."""
     for each in coming:
-        if on_paper.desks(desk().office, each.code):
+        if on_paper.noted(desk().office, each.code).lines:
             view().ask(facts.entered(view().reading.rows, each.code))
             if (found := on_paper.compared(view().reading, each.code)) and not found.holds():
                 yield of_session("printed", each, "print", count=len(found.moves), halls=found.halls)

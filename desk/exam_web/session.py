@@ -33,13 +33,12 @@ class Sheet(NamedTuple):
     """A paper of a session, and the function that makes it."""
     title: str
     page: Callable[..., str]  # of a reading, a session and, where it is by hall, the halls: all where none is named
-    by_hall: bool = False
 
 
 SHEETS = {
-    "doors": Sheet("Invigilators' sheets to sign", papers.doors, True),
-    "poster": Sheet("Posters for doors", papers.poster, True),
-    "cards": Sheet("Desk cards", papers.cards, True), "chart": Sheet("Seating charts", papers.chart, True),
+    "doors": Sheet("Invigilators' sheets to sign", papers.doors),
+    "poster": Sheet("Posters for doors", papers.poster),
+    "cards": Sheet("Desk cards", papers.cards), "chart": Sheet("Seating charts", papers.chart),
     "slips": Sheet("Slips for candidates, with desk numbers", lambda reading, session: slips.page(
         reading, slips.Choice(sessions=[session], desks=True))),
     "board": Sheet("Notice board by name", papers.board), "counts": Sheet("Copies of each paper", papers.counts),
@@ -154,7 +153,7 @@ def draw(code: str) -> Response:
         raise Wrong(charts if is_chart else shown.hall_page(halls[0]), "draw", **wrong)
     for hall, rows in drawn.items():
         notebook.keep_rows(office(), hall, rows)
-        tell_papers(on_paper.with_another(office(), on_paper.OF_ROWS.format(hall), rows))
+        tell_papers(on_paper.otherwise(office(), {}, {on_paper.OF_ROWS.format(hall): str(rows)}))
     return lead(charts[0], **charts[1]) if is_chart else lead("session.page", code=code, _anchor=f"hall-{halls[0]}")
 
 
@@ -174,7 +173,7 @@ def note_absent(code: str) -> Response:
 
 @pages.get("/sessions/<code>/attendance.csv")
 def attendance_csv(code: str) -> Response:
-    return attached(notebook.attendance(view().reading, Session(code).code).encode(), f"{code}-attendance.csv")
+    return attached(notebook.attendance(view().reading, [Session(code).code]).encode(), f"{code}-attendance.csv")
 
 
 @pages.get("/sessions/<code>/seats.csv")
@@ -190,7 +189,7 @@ def sheet(code: str, sheet: str, hall: Sequence[str] = ()) -> str:
     shown, halls = Session(code), hall or request.args.getlist("hall")
     made = SHEETS.get(sheet) or abort(404)
     try:
-        return styled(made.page(view().reading, code, *([halls] if made.by_hall else [])))
+        return styled(made.page(view().reading, code, *([halls] if sheet in on_paper.BY_HALL else [])))
     except papers.NotDrawn as trouble:
         asked = map(shown.opening, trouble.halls)
         return render_template("charts.html", s=shown.sums, halls=[(each, standing(each)) for each in asked], of=halls)
@@ -200,8 +199,8 @@ def sheet(code: str, sheet: str, hall: Sequence[str] = ()) -> str:
 def compare_printed(code: str) -> str:
     """Who is not as on paper: a piece of the session's page, or a page of its own where no script runs."""
     shown = Session(code)
-    return render_template("printed.html", s=shown.sums, found=on_paper.compared(view().reading, code),
-                           most=MOST_PEOPLE, taken=shown.taken())
+    return render_template("printed.html", s=shown.sums, most=MOST_PEOPLE,
+                           found=on_paper.compared(view().reading, code))
 
 
 @pages.post("/sessions/<code>/printed")

@@ -224,10 +224,24 @@ class RandomOffice:
 
     def doors(self, reading, session):
         tables = collections.defaultdict(list)
+        scripts = []
         for table in Cells(page := papers.doors(reading, session)).tables:
+            if table[0][0] == "Paper":
+                scripts.append([row[:2] for row in table[1:]])
+                continue
             tables[re.search(r"\|([A-Z0-9]+), page [0-9]+ of [0-9]+\|", table[0][0])[1]].append(table)
         halls = sorted({seat.hall for seat in self.now[session].values()} - {"-"})
         equal([*tables], halls, "halls", page)
+        copies = [sorted(collections.Counter(seat.paper for seat in self.now[session].values() if seat.hall == hall)
+                         .items()) for hall in halls]
+        equal(scripts, [[[code, str(count)] for code, count in found] for found in copies], "scripts", page)
+        begins = {code: (day, start) for code, day, start in reading.rows.execute("SELECT code, day, start FROM session")}
+        then = collections.defaultdict(list)
+        for pair, (numbers, _) in at_one_time(reading.rows, self.now).items():
+            for number, other in ((number, *{*pair} - {session}) for number in numbers if session in pair):
+                seat, start = self.now[other][number], begins[other][1]
+                when = f"until {seat.finish}" if begins[other] < begins[session] else f"from {start // 60:02}:{start % 60:02}"
+                then[number].append(f"sits {other} {when}, in {seat.hall.replace('-', 'no hall yet')}")
         for hall, parts in tables.items():
             lines = self.sheet(self.path, "door-list", session, hall)
             rows = [[*line[:25].split(), line[26:]] for line in lines[2:]]
@@ -235,7 +249,7 @@ class RandomOffice:
             for number, _, clash in self.clashes(session):
                 missed[number].append(f"does not sit {clash}")
             wanted = [[desk, number, plain(name), paper, self.now[session][number].finish,
-                       "|".join(filter(None, [self.arrangements[number, session], *missed[number]])), ""]
+                       "|".join(filter(None, [self.arrangements[number, session], *missed[number], *then[number]])), ""]
                       for desk, number, paper, name in rows]
             equal([row for table in parts for row in table[2:]][:-1], wanted, "doors", page)
             last = max(self.now[session][number].finish for _, number, *_ in rows)

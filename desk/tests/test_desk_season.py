@@ -58,7 +58,8 @@ class Office:
         return self.everybody
 season.view = season.desk = Office
 season.days_until = int
-season.on_paper.desks = lambda office, code: code != "UNPRINTED"
+paper = season.on_paper.Paper({}, {}, "", "")
+season.on_paper.noted = lambda office, code: paper._replace(lines={"1": None} if code != "UNPRINTED" else {})
 found = [season.Sums(code, day, 0, members, 0, 0, 0, 0) for code, day, members in
          (("TODAY", "0", 900), ("UNPRINTED", "1", 4000), ("FULL", "2", 1100), ("MORE", "3", 1), ("LATER", "4", 1))]
 for Office.everybody in (2000, 2001):
@@ -108,7 +109,7 @@ class TestWhatNeedsAPerson(DeskSchool):
         self.assertNotIn("as on paper", self.browser.words("/"))
         for path in self.WHOLE:
             said, link = self.line(path, f"{len(moves)} candidates{begin}: ")
-            self.assertEqual(f"{said}; board, counts, slips", halls.removeprefix("to print again: sheet, poster, cards, chart of "))
+            self.assertEqual(f"{said}; board, counts, slips", halls.removeprefix("to print again: doors, poster, cards, chart of "))
             self.assertEqual(link, "/sessions/MON-AM#print")
             self.assertNotIn("TUE-AM are not", self.browser.words(path))
         self.assertIn(f"{len(moves)} candidates are not as on paper", self.browser.words("/sessions/MON-AM/printed"))

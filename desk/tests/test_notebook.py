@@ -63,7 +63,7 @@ class Notebook(unittest.TestCase):
 
     def test_nothing_is_there_at_first(self):
         self.assertEqual((notebook.school_name(self.office), notebook.notes(self.office)), ("", {}))
-        self.assertEqual((on_paper.desks(self.office, "S1"), notebook.absent(self.office, "S1")), ({}, None))
+        self.assertEqual((on_paper.noted(self.office, "S1").lines, notebook.absent(self.office, "S1")), ({}, None))
         self.assertFalse(self.place.exists())
 
     def test_notes(self):
@@ -103,7 +103,8 @@ class Notebook(unittest.TestCase):
         desks = {"0000001": Desk("A", 1), "0000002": Desk("A", 2), "0000003": Desk("B", 1)}
         with notebook.alone(self.office) as folder:
             notebook.write(self.office, folder, "printed.S1", {number: [*desk, "0"] for number, desk in desks.items()})
-        self.assertEqual((on_paper.desks(self.office, "S1"), on_paper.desks(self.office, "S2")), (desks, {}))
+        self.assertEqual(({number: line.desk for number, line in on_paper.noted(self.office, "S1").lines.items()},
+                          on_paper.noted(self.office, "S2").lines), (desks, {}))
         now = {"0000002": Desk("A", 1), "0000003": Desk("B", 1), "0000004": Desk("C", 1)}
         self.assertEqual(on_paper.moved(desks, now), ["0000001", "0000002", "0000004"])
         self.assertEqual(on_paper.moved(desks, desks), [])
@@ -157,9 +158,9 @@ class Notebook(unittest.TestCase):
                 ("school", b"1", notebook.school_name), ("school", b"[]", notebook.school_name),
                 ("rows", b'{"GYM": [0, "down"]}', notebook.rows_of_halls),
                 ("rows", b'{"GYM": [1]}', notebook.rows_of_halls),
-                ("printed.S", b'{"0000001": [1, "GYM"]}', lambda office: on_paper.desks(office, "S")),
-                ("printed.S", b'{"GYM: hall title": ["\\ud800", 0]}', lambda office: on_paper.desks(office, "S")),
-                ("printed.S", b'{"0000001": ["GYM", 1, 2]}', lambda office: on_paper.desks(office, "S")),
+                ("printed.S", b'{"0000001": [1, "GYM"]}', lambda office: on_paper.noted(office, "S")),
+                ("printed.S", b'{"GYM: hall title": ["\\ud800", 0]}', lambda office: on_paper.noted(office, "S")),
+                ("printed.S", b'{"0000001": ["GYM", 1, 2]}', lambda office: on_paper.noted(office, "S")),
                 ("absent.S", b"[1]", lambda office: notebook.absent(office, "S")),
                 ("absent.S", b'{"0000001": "a"}', lambda office: notebook.absent(office, "S"))):
             (self.place / f"{name}.json").write_bytes(text)
@@ -236,7 +237,7 @@ class Commands(sample.SampleSchool):
         note = ("office: NOTE nobody has noted who was absent in MON-AM: all who have a desk are listed as present; "
                 "`office absent MON-AM --nobody` notes")
         for self.environment["TODAY"] in ("2027-06-07", "2027-07-01"):
-            self.assertEqual({line[4] for line in self.board(note)[1:]}, {"present", "no desk"})
+            self.assertEqual({line[4] for line in self.board(note)[1:]}, {"present", "no desk", "not sat"})
         self.assertIn("no number is given", self.refused("absent", "MON-AM", "-", stdin="\n"))
         self.office("absent", "MON-AM", "1051")
         self.assertEqual(self.office("absent", "MON-AM", "--there", "1051"), "0 candidates absent of 60\n")
@@ -255,10 +256,15 @@ class Commands(sample.SampleSchool):
         lines = self.board("office: NOTE")
         self.assertEqual(lines[0], ["session", "date", "number", "paper", "attendance"])
         self.assertEqual({(line[0], line[1]) for line in lines[1:]}, {("MON-AM", "2027-06-07")})
-        self.assertEqual(Counter(line[4] for line in lines[1:]), {"present": 58, "no desk": 2})
+        self.assertEqual(Counter(line[4] for line in lines[1:]), {"present": 58, "no desk": 2, "not sat": 4})
         members = [line for line in self.office("export", "MON-AM").splitlines()[1:]]
         self.assertEqual(sorted((line.split(",")[1], line.split(",")[2]) for line in members),
-                         sorted((line[2], line[3]) for line in lines[1:]))
+                         sorted((line[2], line[3]) for line in lines[1:] if line[4] != "not sat"))
+        self.assertIn(["MON-AM", "2027-06-07", "0001306", "MA-2", "not sat"], lines)  # sits LAT, and is entered for both
+        every = self.run_office("absent")  # MON-PM is on that day too, TUE-AM on the next
+        self.assertEqual([line[0] for line in csv.reader(io.StringIO(every.stdout))],
+                         ["session", *["MON-AM"] * 64, *["MON-PM"] * 60])
+        self.assertEqual(every.stderr.count("NOTE nobody has noted who was absent in MON-"), 2)
         self.assertEqual(self.office("absent", "MON-AM", "0001051"), f"1 candidate absent of {len(members)}\n")
         self.assertEqual(self.office("absent", "MON-AM", "-", stdin="0001000\n1017, 0001051\n"),
                          f"3 candidates absent of {len(members)}\n")
@@ -291,9 +297,9 @@ class Commands(sample.SampleSchool):
         self.office("close-hall", "MON-AM", "GYM")
         self.office("withdraw", "0001119", "CS-1")  # so that somebody in another hall has another desk
         *moves, again, last = self.office("printed", "MON-AM", "--look").splitlines()
-        self.assertEqual(last, "to take away, as nobody sits there now: sheet, poster, cards, chart of GYM")
+        self.assertEqual(last, "to take away, as nobody sits there now: doors, poster, cards, chart of GYM")
         halls = {place for line in moves for place in re.findall(r"(?:: |-> )([A-Z]\w+) \d+(?= ->|,|$)", line)}
-        self.assertEqual(again, f"to print again: sheet, poster, cards, chart of {', '.join(sorted(halls - {'GYM'}))}; board, counts, slips")
+        self.assertEqual(again, f"to print again: doors, poster, cards, chart of {', '.join(sorted(halls - {'GYM'}))}; board, counts, slips")
         self.assertIn("PC1", again)
 
     def test_the_log_and_the_notebook_say_who_noted_it(self):
@@ -314,10 +320,10 @@ class Commands(sample.SampleSchool):
         """They stand on the board and the copies, in no hall; a session may have nobody else."""
         self.office("printed", "TUE-AM")
         done = self.run_office("withdraw", "0001221", "BI-1")  # who had no desk
-        self.assertIn("(board, counts, slips too): TUE-AM for no hall\n", done.stderr)
+        self.assertIn("out of date: TUE-AM (board, counts)\n", done.stderr)
         self.assertEqual(self.office("printed", "TUE-AM", "--look"),
                          "0001221 Nora Haddad: no desk -> not in the session\n"
-                         "to print again: board, counts, slips\n")
+                         "to print again: board, counts\n")
         self.office("printed", "TUE-AM")
         self.office("reinstate", "0001221", "BI-1")
         self.assertIn("0001221 Nora Haddad: not on paper -> no desk\n", self.office("printed", "TUE-AM", "--look"))
@@ -352,29 +358,35 @@ class Commands(sample.SampleSchool):
             [line] = [line for line in lines if line.startswith("0001306")]
             self.assertRegex(line, rf"^0001306 (Sami Nagy|Another Name): AULA 1, {said}$")
             self.assertIn("AULA", lines[-1], words)
+            if words[0] == "notes":
+                self.assertEqual(lines[-1], "to print again: doors of AULA; slips (`office slips MON-AM --desks --only 0001306`)")
 
     def test_what_lines_share(self):
-        """A line for a hall, a paper or the school, and none for each candidate; in the halls that show it."""
+        """A line for a hall, a paper or the school, and none for each candidate; and the papers of the halls that show it."""
         self.office("rows", "AULA", "6")
         halls_of = defaultdict(set)
         for _, _, paper, hall, _ in (line.split(",") for line in self.office("export", "MON-AM").splitlines()[1:]):
             halls_of[paper].update({hall} - {"-"})
         titles = self.write("h.csv", "hall,title,features\nAULA,Great hall,-\n")
         paper = self.write("p.csv", "paper,title,session,minutes,requires\nLAT,Latin 1,MON-AM,90,-\n")
-        for words, said, halls in (
-                (("open-hall", "MON-AM", "AULA", "16", "13:00"), "AULA: open until 12:30 -> 13:00", ["AULA"]),
-                (("open-hall", "MON-AM", "AULA", "17", "13:00"), "AULA: desks 16 -> 17", ["AULA"]),
-                (("rows", "AULA", "4", "down"), "AULA: rows 6 across -> 4 down", ["AULA"]),
-                (("import", "halls", titles), "AULA: hall title Aula, main building -> Great hall", ["AULA"]),
-                (("import", "papers", paper), "LAT: paper title Latin -> Latin 1", halls_of["LAT"]),
-                (("school", "Hill"), "school: name - -> Hill", set().union(*halls_of.values()))):
+        of_latin, of_all = (", ".join(sorted(halls)) for halls in (halls_of["LAT"], set().union(*halls_of.values())))
+        for words, said, papers in (
+                (("open-hall", "MON-AM", "AULA", "16", "13:00"), "AULA: open until 12:30 -> 13:00", "doors of AULA"),
+                (("open-hall", "MON-AM", "AULA", "17", "13:00"), "AULA: desks 16 -> 17", "doors, chart of AULA"),
+                (("rows", "AULA", "4", "down"), "AULA: rows 6 across -> 4 down", "chart of AULA"),
+                (("import", "halls", titles), "AULA: hall title Aula, main building -> Great hall",
+                 "doors, poster, cards, chart of AULA; board, counts, slips"),
+                (("import", "papers", paper), "LAT: paper title Latin -> Latin 1",
+                 f"doors, cards of {of_latin}; counts, slips"),
+                (("school", "Hill"), "school: name - -> Hill",
+                 f"doors, poster, chart of {of_all}; board, counts, slips")):
             self.office("printed", "MON-AM")
             self.assertEqual(self.run_office("rows", "PC1", "6").stderr, "")  # there was no chart of it before
             self.assertEqual(self.office("printed", "MON-AM", "--look"), "the papers are up to date\n")
             told = self.run_office(*words)
             self.assertEqual(self.office("printed", "MON-AM", "--look"),
-                             f"{said}\nto print again: sheet, poster, cards, chart of {', '.join(sorted(halls))}; board, counts, slips\n")
-            self.assertIn(f": MON-AM for {', '.join(sorted(halls))}\n", told.stderr, words)
+                             f"{said}\nto print again: {papers}\n")
+            self.assertIn(f": MON-AM ({papers})\n", told.stderr, words)
             self.assertEqual(self.office("printed"),
                              "MON-AM: the papers are out of date; `office printed MON-AM --look`\n")
 
@@ -385,7 +397,7 @@ class Commands(sample.SampleSchool):
         self.assertEqual(self.run_office("notes", first).stderr, "")
         other = self.write("other.csv", "number,text\n0001306,two\n")
         self.assertEqual(self.run_office("notes", other).stderr,
-                         "1 session has printed papers that are out of date (board, counts, slips too): MON-AM for AULA\n"
+                         "1 session has printed papers that are out of date: MON-AM (doors of AULA; slips)\n"
                          "`office printed MON-AM --look` lists them\n")
         self.assertEqual(self.run_office("notes", first).stderr, "")  # as on paper again
 
@@ -471,7 +483,7 @@ class Commands(sample.SampleSchool):
             [letter, *_] = csv.DictReader(self.office("slips", "--csv", "--only", "1051").split("\n"))
             self.assertEqual(letter["note"], slip)
         for note in ("overstaff: a", "a staff member reads"):
-            self.assertEqual(notebook.for_candidate(note), note)
+            self.assertEqual(notebook.STAFF.sub("", note), note)
 
 
 if __name__ == "__main__":

@@ -66,6 +66,13 @@ class Overlaps(sample.SampleSchool):
         for session, hall, wanted in (("MON-AM", "AULA", [said.format("11:00", "HL")]), ("MON-AM", "GYM", []),
                                       ("HL", "AULA", [said.format("11:00", "MON-AM")]), ("HM", "AULA", [])):
             self.assertEqual(re.findall("also here[^<]*", self.office("doors", session, hall)), wanted, session)
+            for paper in ("poster", "chart") if session == "MON-AM" else ():
+                self.office("rows", hall, "4")
+                self.assertEqual(re.findall("also here[^<]*", self.office(paper, session, hall)), wanted, paper)
+        hall = next(row[3] for row in rows if row[1] == "0001034")
+        self.office("open-hall", "T2", "R12", "9", "18:00")
+        self.assertIn("sits T2 from 12:07, in R12", self.office("doors", "MON-AM", hall))
+        self.assertIn(f"sits MON-AM until 12:08, in {hall}", self.office("doors", "T2"))
         told = self.run_office("withdraw", "0001017", "MA-1").stderr  # what was so before is not told again
         self.assertIn("1 leaves a session: MON-AM 0001017 Bo Ito", told)
         self.assertNotIn("at one time", told)

@@ -37,11 +37,11 @@ class Numbers(unittest.TestCase):
 class Rows(unittest.TestCase):
     def test_each_stands_on_one_page_that_has_room(self):
         heights = [9.05, 20, 13.8] * 20
-        parts = papers.parted(heights, 200)
+        parts = papers.parted(heights, 200, 120)
         self.assertEqual([height for part in parts for height in heights[part]], heights)
-        self.assertEqual(len(parts), 5)
         for part in parts:
-            self.assertLessEqual(sum(heights[part]) + papers.LAST * (part is parts[-1]), 200)
+            self.assertLessEqual(sum(heights[part]) + 120 * (part is parts[-1]), 200)
+        self.assertEqual([len(heights[part]) for part in parts], [13, 13, 14, 13, 6, 1])
 
 
 class Posters(sample.SampleSchool):

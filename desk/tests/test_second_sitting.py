@@ -61,7 +61,7 @@ class There(SecondSitting):
         self.office("printed", "MON-AM")
         told = self.run_office("second-sitting", *ONE, "--yes")
         self.assertIn("misses MA-1 -> -", self.office("printed", "MON-AM", "--look"))
-        self.assertIn("  MON-AM for R14: ", told.stdout)
+        self.assertIn("  MON-AM (doors of R14; slips): ", told.stdout)
         first, second = self.office("doors", "MON-AM", "R14"), self.office("doors", "MON-AM-2")
         self.assertEqual(first.count("stay with them: MA-1 at 10:30 in R14"), 1)
         self.assertIn("watched since 10:30, comes from R14", second)

@@ -83,20 +83,12 @@ def table(heads: Sequence[str], rows: Iterable[Sequence[object]], above: Markup 
                   f"<tbody>\n{body}\n{under}</tbody></table>\n")
 
 
-def style(*names: str) -> Markup:
-    """Style sheets, one behind the other."""
-    return Markup("".join(f"\n{(STYLES / f'{name}.css').read_text('utf-8')}" for name in names))
-
-
-def quoted(value: str) -> Markup:
-    """A text as it stands between quotes in a style."""
-    return Markup(re.sub(r"[^\w ,.:-]", lambda sign: rf"\{ord(sign[0]):x} ", value))
-
-
 def document(reading: Reading, title: str, body: Markup, *names: str) -> str:
     """Pages of A4 with the styles of these names. The foot of each has the title, the time, and the state."""
     printed = f"{title}, printed {reading.office.now():%Y-%m-%d %H:%M:%S}, state {reading.mark}"
-    return str(html(DOCUMENT, title, quoted(printed), style("page", *names), body))
+    quoted = re.sub(r"[^\w ,.:-]", lambda sign: rf"\{ord(sign[0]):x} ", printed)  # between quotes in a style
+    styles = "".join(f"\n{(STYLES / f'{name}.css').read_text('utf-8')}" for name in ("page", *names))
+    return str(html(DOCUMENT, title, Markup(quoted), Markup(styles), body))
 
 
 def school(office: Office, behind: str = "") -> Markup:

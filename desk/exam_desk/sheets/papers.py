@@ -39,6 +39,7 @@ TOLD = ["w:Session", "w:Number", "Name", "Before", "Now", "box:Told"]
 SAT = "{}<br>{}<br>{}, <span class=w>{}–{}</span>"
 
 DOORS = ["n:Desk", "w:Number", "Name", "Paper", "w:Finish", "Arrangement", "sign:Signature"]
+COLLECTED = ["Paper", "n:Expected", "box:Present", "box:Scripts", "sign:Collected by"]
 LATER = "or later"  # below the finish of who has a note, since it may be of rest breaks
 ABOVE = "<span>{}<br>open until {}, last finish {}<br>{}, {} expected</span><b>{}</b><br>{}, page {} of {}<br>{}"
 BELOW = Markup("Present: ________ &emsp; Absent: ________ &emsp; Invigilator: ______________________________")
@@ -68,17 +69,13 @@ def when(reading: Reading, session: str) -> Markup:
 
 
 def of_desks(reading: Reading, session: str, title: str, sheets: Iterable[Markup], name: str) -> str:
-    """A document of sheets on who has a desk in a session, each on pages of its own."""
+    """A document of sheets on who has a desk in a session, each on pages of its own; or why there is none."""
     found = joined(html("<div class=sheet>{}</div>\n", sheet) for sheet in sheets)
-    return document(reading, f"{title} {session}", found or nobody(reading, session), "paper", name)
-
-
-def nobody(reading: Reading, session: str) -> Markup:
-    """What stands in place of sheets where nobody has a desk in a session."""
-    members = lists.count(len(reading.members(session)), "candidate")
-    why = html("{}, none has a desk: <code>office why {}</code> says why", members, session)
-    return html("<h2>{}{}</h2>\n<p>{}</p>\n", school(reading.office, "<br>"), when(reading, session),
-                why if reading.members(session) else "nobody is entered")
+    people = len(reading.members(session))
+    why = html("{}, none has a desk: <code>office why {}</code> says why", lists.count(people, "candidate"), session)
+    none = html("<h2>{}{}</h2>\n<p>{}</p>\n", school(reading.office, "<br>"), when(reading, session),
+                why if people else "nobody is entered")
+    return document(reading, f"{title} {session}", found or none, "paper", name)
 
 
 def desk(member: Member, before: Mapping[str, Line]) -> Markup:
@@ -89,14 +86,6 @@ def desk(member: Member, before: Mapping[str, Line]) -> Markup:
         return safe(now.desk)
     was = f"was {old.desk}" if old.hall == now.hall else f"was {old.hall} {old.desk}"
     return html("{} <small>{}</small>", now.desk, was if old.hall else "new")
-
-
-def finish(member: Member, before: Mapping[str, Line], is_noted: bool) -> Markup:
-    """The finish of a candidate; below it the one that was printed where that is another, and a word on a note."""
-    now, line = member.sitting.finish, before.get(member.number)
-    old = line.shown[SHOWN.index("finish")] if line else ""
-    below = [f"was {old}"] * (old not in ("", now)) + [LATER] * is_noted
-    return joined([now, *(html("<small>{}</small>", each) for each in below)], "<br>")
 
 
 def named(members: Collection[Member]) -> dict[str, Markup]:
@@ -124,9 +113,10 @@ def board(reading: Reading, session: str) -> str:
 def poster(reading: Reading, session: str, asked: Collection[str] = ()) -> str:
     """Posters for the doors: each hall from a page of its own on, names with desks and nothing private."""
     moment, name, names = when(reading, session), school(reading.office, " &middot; "), named(reading.members(session))
+    others = overlaps.in_halls(reading, session)
     return of_desks(reading, session, "Posters", (
         html(POSTER, fitted(text(opening.title), ON_POSTER), moment, name, opening.hall,
-             lists.count(len(there), "candidate"),
+             joined([lists.count(len(there), "candidate"), *others.get(opening.hall, [])], "<br>"),
              table(["Name", "n:Desk"], [[names[each.number], each.sitting.desk] for each in lists.by_name(there)]))
         for opening, there in lists.halls(reading, session, asked)), "poster")
 
@@ -146,12 +136,13 @@ def chart(reading: Reading, session: str, asked: Collection[str] = ()) -> str:
     """Seating charts: halls as rows of desks, with who sits where. Raises `NotDrawn` too, with the other halls."""
     halls, rows = lists.halls(reading, session, asked), notebook.rows_of_halls(reading.office)
     moment, name, papers = when(reading, session), school(reading.office, ". "), paper_names(reading.rows, CODE)
-    codes = [opening.hall for opening, _ in halls]
+    codes, others = [opening.hall for opening, _ in halls], overlaps.in_halls(reading, session)
     if unknown := [code for code in codes if code not in rows]:
         raise NotDrawn(unknown, [code for code in codes if code in rows])
     return of_desks(reading, session, "Seating charts", (
         html(CHART, "chart wide" if stand.across > UPRIGHT else "chart", stand.across, text(opening.title),
-             opening.hall, name, moment, lists.count(len(there), "candidate"),
+             opening.hall, name, moment,
+             joined([lists.count(len(there), "candidate"), *others.get(opening.hall, [])], "<br>"),
              joined(drawn(opening.desks, there, stand, papers)))
         for opening, there in halls for stand in [rows[opening.hall]]), "chart")
 
@@ -205,10 +196,10 @@ def doors(reading: Reading, session: str, asked: Collection[str] = ()) -> str:
     notes, printed = notebook.notes(reading.office), on_paper.noted(reading.office, session).lines
     papers, missed = paper_names(reading.rows, CODE), reading.clashes(session)
     made = {second["code"]: first for first, second in second_sitting.pairs(reading.rows)}
+    others, starts = overlaps.in_halls(reading, session), overlaps.starts(reading)
     told = {number: [*filter(None, [notes.get(number)]), *(f"does not sit {paper}" for paper in missed.get(number, ())),
-                     *watched(made, sits, reading.all_of(number).values())]
+                     *elsewhere(made, starts, sits, reading.all_of(number).values())]
             for number, _, sits in reading.members(session)}
-    others = overlaps.in_halls(reading, session)
     return of_desks(reading, session, "Invigilators' sheets", (
         page for opening, there in lists.halls(reading, session, asked)
         for page in of_door(heading, titles, opening, there, others.get(opening.hall, []),
@@ -216,9 +207,14 @@ def doors(reading: Reading, session: str, asked: Collection[str] = ()) -> str:
                              for member in there])), "doors")
 
 
-def watched(made: Mapping[str, sqlite3.Row], sits: Sitting, all_of: Iterable[Sitting]) -> Iterator[str]:
-    """What invigilators must know, from all that somebody sits, where a second sitting is behind this one, or is this
-    one: in between somebody stays with them. Of each paper that was made for second sittings its own one is given."""
+def elsewhere(made: Mapping[str, sqlite3.Row], starts: Mapping[str, int], sits: Sitting, all_of: Collection[Sitting]
+              ) -> Iterator[str]:
+    """What invigilators must know, from all that somebody sits: what they sit in another session at that time; and
+    where a second sitting is behind this one, or is this one: in between somebody stays with them. Of each paper that
+    was made for second sittings its own one is given."""
+    for other in overlaps.beside(starts, sits, all_of):
+        when = f"until {other.finish}" if starts[other.session] < starts[sits.session] else f"from {other.start}"
+        yield f"sits {other.session} {when}, in {other.hall or 'no hall yet'}"
     mine = made.get(sits.paper)
     for other in all_of:
         first = made.get(other.paper)
@@ -235,19 +231,25 @@ def of_door(heading: Markup, titles: Mapping[str, Markup], opening: facts.Openin
     said = [*(html("{}: {}", titles[code], count) for code, count in counted), *map(safe, others)]
     rows, heights = zip(*found)
     above = lines([opening.title, *(each.striptags() for each in said)], TITLES)
-    parts = parted(heights, HEIGHT - HEADING - LINE * max(3, above))
+    parts = parted(heights, HEIGHT - HEADING - LINE * max(3, above), LAST + ROW * (1 + len(counted)))
+    end = BELOW, table(COLLECTED, [[code, count, "", "", ""] for code, count in counted], name="collected")
     last = max(member.sitting.finish for member in members)
     for place, part in enumerate(parts, 1):
         head = html(ABOVE, heading, clock(opening.until), last, lists.count(opening.desks, "desk"),
                     lists.count(len(members), "candidate"), text(opening.title), opening.hall, place, len(parts),
                     joined(said, "<br>"))
-        yield table(DOORS, rows[part], head, BELOW if place == len(parts) else Markup())
+        below_it, scripts = end if place == len(parts) else (Markup(), Markup())
+        yield table(DOORS, rows[part], head, below_it) + scripts
 
 
 def row_of(member: Member, papers: Mapping[str, Markup], told: Iterable[str], printed: Mapping[str, Line],
            is_noted: bool) -> Row:
-    """The row of a candidate, as high as its highest cell is, or a signature."""
-    paper, until = papers[member.sitting.paper], finish(member, printed, is_noted)
+    """The row of a candidate, as high as its highest cell is, or a signature. Below the finish stand the one that was
+    printed where that is another, and a word on a note."""
+    paper, line, finish = papers[member.sitting.paper], printed.get(member.number), member.sitting.finish
+    old = line.shown[SHOWN.index("finish")] if line else ""
+    below = [f"was {old}"] * (old not in ("", finish)) + [LATER] * is_noted
+    until = joined([finish, *(html("<small>{}</small>", each) for each in below)], "<br>")
     arranged = [*filter(None, [lists.allowance(member.sitting)]), *told]
     height = 1 + LINE * max(lines([member.name], NAME), lines(arranged, ARRANGEMENT), len(paper.striptags().split()),
                             1 + until.count("<br>"))
@@ -273,11 +275,11 @@ def lines(texts: Iterable[str], room: float) -> int:
     return sum(1 + int(1.15 * width(each) / room) for each in texts)
 
 
-def parted(heights: Sequence[float], room: float) -> list[slice]:
-    """Which rows stand on each page; below the last row there is room for a line."""
+def parted(heights: Sequence[float], room: float, below: float) -> list[slice]:
+    """Which rows stand on each page; below the last row there is so much room."""
     found, first, left = [], 0, room
     for place, height in enumerate(heights):
-        needed = height + (LAST if place == len(heights) - 1 else 0)
+        needed = height + (below if place == len(heights) - 1 else 0)
         if needed > left and place > first:
             found.append(slice(first, place))
             first, left = place, room

@@ -23,8 +23,7 @@ COMPARED = 12  # sheets at most that the program prints too
 Sheets = dict[tuple[str, ...], list[str]]  # the lines of each sheet, by the words of its command
 
 
-def text(reading: Reading, session: str, lines: int, columns: int,
-         progress: Callable[[str, float], None]) -> str:
+def text(reading: Reading, session: str, lines: int, columns: int, progress: Callable[[str, float], None]) -> str:
     """All sheets, each page of at most so many lines of so many letters; a form feed stands between two pages. Raises
     `Trouble` where a sheet is not as the program prints it."""
     sheets = written(reading, facts.session_row(reading.rows, session))
@@ -61,17 +60,12 @@ def written(reading: Reading, row: sqlite3.Row) -> Sheets:
     return found
 
 
-def cut(line: str, width: int) -> list[str]:
-    """A line as several that have room; what goes on is indented, so that it does not look like another row."""
-    room = width - len(INDENT)
-    return [line[:width], *(f"{INDENT}{line[at:at + room]}" for at in range(width, len(line), room))]
-
-
 def pages(lines: list[str], most: int, width: int) -> Iterator[str]:
-    """The pages of a sheet; several say which each is."""
-    heading = lines[:HEADING]
-    body = [part for line in lines[HEADING:] for part in cut(line, width)]
-    room = most - HEADING
+    """The pages of a sheet; several say which each is. What of a line has no room goes on indented in the next, so that
+    it does not look like another row."""
+    heading, room, more = lines[:HEADING], most - HEADING, width - len(INDENT)
+    body = [part for line in lines[HEADING:] for part in (
+        line[:width], *(f"{INDENT}{line[at:at + more]}" for at in range(width, len(line), more)))]
     parts = [body[at:at + room] for at in range(0, len(body), room)] or [[]]
     for place, part in enumerate(parts, 1):
         which = f"  page {place} of {len(parts)}" if len(parts) > 1 else ""

@@ -21,11 +21,10 @@ HEADER = ("<header><h1>Session {}</h1><p>{}{}, starts {}</p><p>{}: {:,} seated, 
 SECTION = "<section id={}><h2>{}</h2>\n{}\n</section>\n"
 NONE = Markup("<p>None.</p>")
 BAR = "<svg class=bar viewBox='0 0 100 10' preserveAspectRatio=none role=img aria-label='{}'>{}</svg>"
+WHY = "<div class=why><h3>Why they have no desk</h3><pre>{}</pre></div>"
 CARD = "<div class='card {}'><h3>{}</h3>{}</div>"
 EXPLANATION = ("<p>{} So every plan leaves at least {:,} of them without a desk, and no other plan seats more "
                "candidates than this one.</p><p>What would help: {}another hall that suits some of them{}.</p>")
-
-Part = tuple[str, int]  # of a bar: its kind and its length
 
 
 class Page:
@@ -100,7 +99,8 @@ class Page:
     def shortage_part(self) -> Markup:
         if self.shortage.unseated == 0:
             return Markup("<p>None: every candidate has a desk.</p>")
-        return self.explanation() + self.balance() + self.drawing() + self.why()
+        lines = joined(self.reasons.text().split("\n"), "\n")  # as `office why` says it
+        return self.explanation() + self.balance() + self.drawing() + html(WHY, lines)
 
     def explanation(self) -> Markup:
         people, halls = len(self.shortage.candidates), [hall for hall, _ in self.shortage.halls]
@@ -115,15 +115,15 @@ class Page:
     def balance(self) -> Markup:
         """Candidates, desks and unseated as three bars of one scale."""
         people, desks, lacking = len(self.shortage.candidates), self.shortage.desks, self.shortage.unseated
-        bars: dict[str, list[Part]] = {
+        bars: dict[str, list[tuple[str, int]]] = {
             count(people, "candidate"): [("listed", people)], count(desks, "desk"): [("taken", desks)],
             f"{lacking:,} unseated": [("none", desks), ("lacking", lacking)]}
         drawn = (html("<dt>{}</dt><dd>{}</dd>", label, bar(parts, people, label)) for label, parts in bars.items())
         return html("<p class=sum>{} = {} + {}</p>\n<dl class=balance>{}</dl>", *bars, joined(drawn))
 
     def drawing(self) -> Markup:
-        """Each listed candidate at a desk of a listed hall, of many those without a desk alone; then the halls that suit
-        none of them."""
+        """Each listed candidate at a desk of a listed hall, of many those without a desk alone; then the halls that
+        suit none of them."""
         halls, is_drawn = [hall for hall, _ in self.shortage.halls], len(self.shortage.candidates) <= MOST_DRAWN
         full = [("in", f"{hall}: {count(len(self.seated[hall]), 'desk')}, all taken", self.seated[hall] * is_drawn)
                 for hall in halls]
@@ -135,14 +135,9 @@ class Page:
             cards.append(html(CARD, "out", "Suit none of these candidates", html("<ul>{}</ul>", others)))
         return html("<div class=cards>{}</div>", joined(cards))
 
-    def why(self) -> Markup:
-        """Why those without a desk have none, as `office why` says it."""
-        lines = joined(self.reasons.text().split("\n"), "\n")
-        return html("<div class=why><h3>Why they have no desk</h3><pre>{}</pre></div>", lines)
 
-
-def bar(parts: Sequence[Part], whole: int, label: str) -> Markup:
-    """A bar of parts, drawn to the scale of the whole; SVG, since printers leave out backgrounds."""
+def bar(parts: Sequence[tuple[str, int]], whole: int, label: str) -> Markup:
+    """A bar of parts, each a kind and a length, to scale; SVG, since printers leave out backgrounds."""
     shapes, left = "", 0.0
     for kind, length in parts:
         width = 100 * length / whole

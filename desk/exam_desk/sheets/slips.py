@@ -10,14 +10,15 @@ from exam_desk import facts, files, lists, notebook, overlaps
 from exam_desk.reading import Person, Reading, Sitting
 from exam_desk.sheets import pages
 from exam_desk.sheets.pages import html, joined, text
-from exam_desk.snapshot import Rows
 from exam_desk.trouble import Trouble
 from exam_desk.words import few, short_day
 
 HEADS = ["w:Day", "w:Time", "Paper", "Hall"]
 HEADER = ["number", "name", "session", "date", "start", "finish", "paper", "paper title", "hall", "hall title",
           "arrangement", "not sat", "also sat", "note", "group", "desk", "code"]
-MOST_GROUP_BYTES = 80
+GROUP = "group", 80  # the column of a file number,group, and how many bytes a group has at most
+# What is sat, the papers of its session that are missed, and those that are sat in other sessions at the same time.
+Sat = tuple[Sitting, list[str], list[str]]
 
 
 class Choice(NamedTuple):
@@ -29,23 +30,11 @@ class Choice(NamedTuple):
     groups: Mapping[str, str] = {}  # by number: each group begins a page, in the order in which they stand here
 
 
-class Sat(NamedTuple):
-    """What a candidate sits in a session."""
-    sitting: Sitting
-    missed: list[str]  # the papers there that they miss
-    beside: list[str]  # the papers that they sit in other sessions at the same time
-
-
 class Slip(NamedTuple):
     person: Person
     group: str  # "" where they are in none
     note: str
     sat: list[Sat]
-
-
-def groups_of(content: bytes, path: str) -> dict[str, str]:
-    """The groups by number of a file `number,group`. Raises `Trouble` where it is none."""
-    return files.texts_by_number(content, path, "group", MOST_GROUP_BYTES)
 
 
 def beside_groups(reading: Reading, groups: Mapping[str, str]) -> Iterator[str]:
@@ -84,11 +73,11 @@ def heading(choice: Choice, each: Slip, address: str) -> Markup:
 
 def row(choice: Choice, sat: Sat, papers: Mapping[str, Markup], halls: Mapping[str, Markup]) -> list[object]:
     """When, what and where; below the paper what else holds there in small lines."""
-    sits = sat.sitting
+    sits, missed, beside = sat
     allowance = lists.allowance(sits)
     notes: list[object] = [f"with {allowance}"] if allowance else []
     notes += [html("{} {}, at the same time: ask the exams office", word, papers[code])
-              for word, codes in (("not", sat.missed), ("also", sat.beside)) for code in codes]
+              for word, codes in (("not", missed), ("also", beside)) for code in codes]
     where = (html("{}, desk&nbsp;{}" if choice.desks else "{}", halls[sits.hall], sits.desk) if sits.hall else
              Markup("<b>no desk yet: ask the office</b>"))
     what = joined([papers[sits.paper], *(html("<small>{}</small>", note) for note in notes)], "<br>")
@@ -97,7 +86,9 @@ def row(choice: Choice, sat: Sat, papers: Mapping[str, Markup], halls: Mapping[s
 
 def csv_text(reading: Reading, choice: Choice) -> str:
     """A row for each candidate and session, in the order of the slips. No spreadsheet finds a formula in it."""
-    papers, halls, rows = titles(reading.rows), facts.hall_titles(reading.rows), [HEADER]
+    papers, halls, rows = facts.paper_titles(reading.rows), facts.hall_titles(reading.rows), [HEADER]
+    for code, own in pages.made_of(reading.rows, papers).items():
+        papers[code] += pages.SECOND.format(own)
     for person, group, note, sat in slips_of(reading, choice):
         for sits, missed, beside in sat:
             values = [person.number, person.name, sits.session, sits.date, sits.start, sits.finish, sits.paper,
@@ -106,12 +97,6 @@ def csv_text(reading: Reading, choice: Choice) -> str:
                       str(sits.desk or "") if choice.desks else "", person.code if choice.codes else ""]
             rows.append([*map(files.guarded, values)])
     return files.BOM.decode() + files.written(rows)
-
-
-def titles(rows: Rows) -> dict[str, str]:
-    """The title of each paper, and behind that of a second sitting the code that people know."""
-    found = facts.paper_titles(rows)
-    return found | {code: found[code] + pages.SECOND.format(own) for code, own in pages.made_of(rows, found).items()}
 
 
 def slips_of(reading: Reading, choice: Choice) -> list[Slip]:
@@ -126,10 +111,11 @@ def slips_of(reading: Reading, choice: Choice) -> list[Slip]:
     slips = []
     for person in people:
         sittings = reading.all_of(person.number)
-        sat = [Sat(sits, clashes[code].get(person.number, []), overlaps.beside(starts, sits, sittings.values()))
+        sat = [(sits, clashes[code].get(person.number, []),
+                [each.paper for each in overlaps.beside(starts, sits, sittings.values())])
                for code, sits in sittings.items() if code in codes]
         if sat:
-            note = notebook.for_candidate(notes.get(person.number, ""))
+            note = notebook.STAFF.sub("", notes.get(person.number, ""))
             slips.append(Slip(person, choice.groups.get(person.number, ""), note, sat))
     numbers = {each.person.number for each in slips}
     if missing := [number for number in choice.only if number not in numbers]:

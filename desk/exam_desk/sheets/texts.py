@@ -89,15 +89,8 @@ def lodged(rows: Rows, number: int) -> Iterator[str]:
         yield from (f"    {word}: {row[word]}" for word in ("reason", "answer") if row[word])
 
 
-def papers_at_once(reading: Reading, asked: Collection[str] = ()) -> list[str]:
-    """Who has two papers at once, by session and pair of papers; in these sessions, or in all. Raises `Trouble` where
-    there is no such session."""
-    found = [line for head in facts.sessions(reading.rows, asked) for line in at_once_in(reading, head["code"])]
-    return found or ["nobody has two papers at once"]
-
-
-def at_once_in(reading: Reading, session: str) -> Iterator[str]:
-    """The pairs of a session that most candidates share come first."""
+def papers_at_once(reading: Reading, session: str) -> Iterator[str]:
+    """Who has two papers at once, by pair of papers; the pairs of the session that most candidates share come first."""
     missed = reading.clashes(session)
     if missed:
         yield f"{session}: {lists.count(len(missed), 'candidate')} with two papers or more"
