@@ -66,7 +66,12 @@ def page(number: int, code: str = "") -> str:
     who, seven = candidate_row(number), f"{number:07}"
     reading, entries = view().reading, view().rows(texts.ENTRIES, [number])
     later = {row["paper"] for row in entries if second_sitting.sat_later(reading.rows, seven, row["paper"])}
-    return render_template("candidate.html", who=who, entries=entries, sittings=reading.all_of(seven),
+    starts, sittings = overlaps.starts(reading), reading.all_of(seven)
+    return render_template("candidate.html", who=who, entries=entries, sittings=sittings,
+                           beside={code: overlaps.beside(starts, sits, sittings.values())
+                                   for code, sits in sittings.items()},
+                           absent=[row["session"] for row in entries
+                                   if seven in (notebook.absent(desk().office, row["session"]) or ())],
                            lodged=view().rows(texts.LODGED, [number]), others=papers_without(number), code=code,
                            second=later, hall_titles=facts.hall_titles(reading.rows),
                            note=notebook.notes(desk().office).get(seven, ""),
@@ -204,8 +209,8 @@ def of_one(field: str, step: Callable[[Values], Step], form: Form) -> Plan:
 def rename(form: Form) -> Plan:
     values, page = candidate(form)
     values["other"] = checked(page, form, name="name")["name"]
-    step = coding.renamed(desk().office, values["number"], values["other"])
-    return Plan(values, [step], page, "name", made_for=view().name)
+    make = partial(coding.renamed, desk().office, values["number"], values["other"])
+    return Plan(values, [], page, "name", make=make)
 
 
 def with_code(values: Values) -> Step:

@@ -91,7 +91,8 @@ def short(page: Page, field: str, form: str = "") -> str:
     """A text that a person wrote, such as a reason. It is private: it is posted, and stands in no address."""
     found = request.form.get(field, "").strip()
     if not typed.is_right(typed.REASON, found):
-        raise Wrong(page, form, **{field: text("at most {most} bytes in one line", most=typed.MOST_REASON)})
+        raise Wrong(page, form, **{field: text(
+            "at most {most} letters in one line (ä, é and other signs count as more than one)", most=typed.MOST_REASON)})
     return found
 
 

@@ -33,7 +33,7 @@ from exam_desk.listed import OF_THE_OFFICE
 from exam_desk.office import Office
 from exam_desk.reading import Reading
 from exam_desk.trouble import Stale, Trouble
-from exam_web.desk import PATIENCE, Desk, View, desk, office, sums, unseated, view
+from exam_web.desk import AT_ONCE, PATIENCE, Desk, View, desk, office, sums, unseated, view
 from exam_web.forms import Asked, Form, Page, Wrong, attached, keep, lead
 from exam_web.wording import said, text
 
@@ -42,7 +42,7 @@ MOST_PROPOSALS = 20  # of a visit
 MOST_ROWS = 250  # of a list on the page; all who must be told are in the CSV file
 MOST_LINES = 20  # of the log, where the office was another
 MOST_CLASHES = 100  # new ones that are named
-TICKED = {"loses": 10, "needs": 1, "clashes": 1, "twice": 1, "name": 10}  # by kind: what meets so many candidates wants a tick
+TICKED = {"over": 1, "loses": 10, "needs": 1, "clashes": 1, "twice": 1, "name": 10}  # by kind: from how many on
 COMPARING, LODGING = "Both states are compared", "The appeal is lodged"
 OTHER_OFFICE = ("the office has changed since the page that you came from, so nothing was done: go back to the form, "
                 "and ask once more")
@@ -80,7 +80,8 @@ class Effects(effects.Effects):
         who: dict[str, list[Any]] = {kind: [each.number for each in part] for kind, part in self.kinds.items()} | {
             "over": list(self.over), "past": self.past, "opened": list(self.opened), "shut": self.shut,
             "short": [number for _, number in short],
-            "clashes": [person.number for _, person, _ in self.clashes],
+            "clashes": [number for _, number in {(code, person.number) for code, person, _ in self.clashes}
+                        | {*map(tuple, after.rows(AT_ONCE))} - {*map(tuple, before.rows(AT_ONCE))}],
             "twice": [person.number for _, people in self.overlaps for person in people],
             "halls": [(each.early, each.late, hall) for each, _ in self.overlaps for hall in each.halls],
             "codes": [person.number for person in self.codes]}
@@ -111,6 +112,7 @@ class Plan:
     lodge: tuple[str, ...] = ()  # in the place of steps: the words of an appeal that is lodged the candidate's way
     command: str = ""  # as the log has it, where it is not the steps
     made_for: str = ""  # the state that the steps were made for; "" where they suit each
+    make: Callable[[], Step] | None = None  # the step for the state that there is at a rehearsal
     done: Callable[[], None] = lambda: None  # is called once it is carried out
     look: Callable[[Reading, Reading], Sequence[object]] = left_behind  # says more of a rehearsal, or refuses it
     asked: Asked = field(default_factory=lambda: Asked((request.view_args or {}).get("what", ""), request.form))
@@ -241,7 +243,8 @@ def work(plan: Plan, task: Callable[[Plan, Desk, Office], None]) -> None:
 def rehearse(plan: Plan, here: Desk, who: Office) -> None:
     """Carries the plan out on a private copy, and keeps what that would come to; an appeal is lodged and granted there.
     Raises `Trouble` where the steps were made for another state, whatever they would do in this one."""
-    plan.since, steps = datetime.datetime.now().isoformat(" ", "seconds"), plan.steps
+    plan.since = datetime.datetime.now().isoformat(" ", "seconds")
+    steps = plan.steps = [plan.make()] if plan.make else plan.steps
     with contextlib.ExitStack() as stack:
         if plan.lodge:
             plan.stage = LODGING

@@ -8,7 +8,7 @@ from typing import Any, NamedTuple
 from flask import Blueprint, render_template, request, url_for
 from werkzeug.wrappers import Response
 
-from exam_desk import appeals, facts, logbook, new_office, on_paper, turns
+from exam_desk import appeals, facts, logbook, new_office, notebook, on_paper, turns
 from exam_desk.telling import people_and_sittings
 from exam_desk.trouble import Trouble
 from exam_web import candidates
@@ -20,6 +20,7 @@ from exam_web.wording import days_until, text
 pages = Blueprint("season", __name__)
 MOST_SHOWN = 12  # lines of what needs attention
 SOON, URGENT = 14, 3  # days before a session, or the last day to lodge; before the last day to decide, or to print
+RECENT = 7  # days after a session in which it is missed that nobody noted who was absent
 MOST_ASKED = 2_000  # candidates with printed papers of whom the page itself asks the program
 UNHEARD = {None: "clashes", 3: "refused"}  # of two papers at once: the line by the state of an appeal, or of none
 LEVELS = ["late", "now", "soon", "note"]
@@ -73,7 +74,7 @@ def attention(found: list[Sums], is_whole: bool) -> list[Attention]:
     compared, left = (coming, []) if is_whole else next_days(coming)
     todo = [*broken_off(), *out_of_date(compared), *(of_session("compare", each, "print") for each in left),
             *(of_session("short", each, "short", count=each.short) for each in coming if each.short),
-            *open_appeals(), *clashes(coming)]
+            *open_appeals(), *clashes(coming), *unnoted(found)]
     if coming and turns.keep_state(desk().office) is None:
         todo.append(Attention("note", None, "unserved", url_for("office.page", _anchor="serve")))
     todo += at_one_time(coming) if is_whole else ()
@@ -122,6 +123,15 @@ def clashes(coming: list[Sums]) -> Iterator[Attention]:
             if counts[state]:
                 yield Attention(level, day, what, url_for("clashes.page", session=each.code),
                                 {"count": counts[state], "session": each.code})
+
+
+def unnoted(found: list[Sums]) -> Iterator[Attention]:
+    """Sessions of the last days of which nobody has noted who was absent, nor that nobody was."""
+    noted = notebook.sessions_with(desk().office, "absent")
+    if late := [each.code for each in found
+                if -RECENT <= days_until(each.day) < 0 < each.members and each.code not in noted]:
+        link = url_for("session.page", code=late[0], _anchor="absent")
+        yield Attention("soon", None, "absent", link, {"sessions": late})
 
 
 def next_days(coming: list[Sums]) -> tuple[list[Sums], list[Sums]]:

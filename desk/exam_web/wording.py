@@ -59,6 +59,8 @@ def value_said(value: object, pages: Mapping[str, str]) -> Markup:
     if isinstance(value, Said):
         return said(value, pages)
     address = pages.get(str(value))
+    if isinstance(address, Markup):  # it says by itself what it leads to
+        return address
     return Markup('<a href="{}">{}</a>').format(address, shown(value)) if address else shown(value)
 
 

@@ -293,6 +293,16 @@ class TestTheDay(DeskSchool):
         self.assertNotIn('"absent"', self.office("absent", "MON-AM"))
         self.assertEqual(self.seats(), before)
 
+    def test_on_the_page_of_who_was_absent(self):
+        """0001051 has two papers in MON-AM, and sits one; MON-PM is on that day too."""
+        self.office("absent", "MON-AM", "0001051")
+        text = self.browser.get("/candidates/1051")
+        self.assertEqual(text.count("noted as absent"), 1)
+        self.assertEqual(re.findall('/sessions/([^"/]*)#absent"', text), ["MON-PM"])
+        self.browser.post("/sessions/MON-AM/absent", "/candidates/1051", was="0001051")
+        self.assertIsNone(notebook.absent(self.value, "MON-AM"))
+        self.assertNotIn("Was there after all", self.browser.get("/candidates/1051"))
+
     def test_what_a_colleague_has_noted_stays(self):
         """A list that was loaded before is sent, with one more tick in it, and without one that it showed."""
         page = "/sessions/MON-AM"
