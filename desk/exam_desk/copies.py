@@ -28,10 +28,8 @@ EMPTY_LOG = 41  # bytes of a second file that holds no change
 
 
 def keep_copy(office: Office, command: str) -> str:
-    """Copies the office from before a command and gives the path of the copy. Call it with the office alone.
-
-    Its running number is one more than the highest, so that the order does not depend on the clock.
-    """
+    """Copies the office from before a command and gives the path of the copy. Call it with the office alone. Its
+    running number is one more than the highest, so that the order does not depend on the clock."""
     copy = make(office, PLACE, named(max(map(number_of, listed(office)), default=0) + 1, command), command)
     prune(office)
     return copy

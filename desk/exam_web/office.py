@@ -19,7 +19,7 @@ from exam_desk.words import Said
 from exam_web.desk import View, desk, office, once, sums, view
 from exam_web.forms import Wrong, archive, at_field, lead, tell_papers, whole
 from exam_web.proposals import MOST_ROWS, Effects, copy_key
-from exam_web.wording import said, shown, text
+from exam_web.wording import link, said, text
 
 pages = Blueprint("office", __name__)
 MOST_LINES = 200  # of the log
@@ -36,7 +36,8 @@ class Backup:
 
     def __init__(self, given: Mapping[str, IO[bytes]]) -> None:
         stack = contextlib.ExitStack()
-        self.path, self.is_alone, self.when = stack.enter_context(backups.brought(desk().office, given))
+        self.path, self.is_alone = stack.enter_context(backups.brought(desk().office, given))
+        self.when = backups.written(given)
         weakref.finalize(self, stack.close)
 
 
@@ -75,9 +76,8 @@ def copy(key: str) -> str:
     with contextlib.suppress(Trouble):  # the office is not there, or cannot be read
         now = view()
     return render_template("copy.html", key=key, when=when, what=what, is_brought=copies.is_brought(path), since=since,
-                           e=compared(now, path) if now else None,
-                           held=[] if now else [*sums(view_of(path)).values()],
-                           most=MOST_ROWS, lost=lost, doubts=losses.DOUBTS, people=people(lost),
+                           e=compared(now, path) if now else None, most=MOST_ROWS, doubts=losses.DOUBTS, lost=lost,
+                           held=[] if now else [*sums(view_of(path)).values()], people=people(lost),
                            log=[line for line in log_since(since) if since and
                                 line[3] not in (logbook.BEGINS, logbook.STEP)])
 
@@ -86,8 +86,7 @@ def people(lost: Iterable[Said]) -> dict[str, Markup]:
     """The candidates of whom this is said, by number; the name of each leads to their page."""
     found = {each.values.get("number") for each in lost}
     with contextlib.suppress(Trouble):  # the office is not there, or cannot be read
-        return {number: Markup('<a href="{}">{}</a> {}').format(
-                    url_for("candidates.page", number=int(number)), shown(name), number)
+        return {number: link(url_for("candidates.page", number=int(number)), f"{name} {number}")
                 for number, name in facts.candidate_names(view().reading.rows).items() if number in found}
     return {}
 

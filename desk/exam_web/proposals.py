@@ -1,9 +1,5 @@
-"""The one way for all changes: a form becomes a plan, the plan is rehearsed and shown, then one button does it.
-
-What forms ask becomes steps of the program. Values have the forms of the import files, and stand under the names of the
-columns that they become; all else the program says. What a plan is called, and the words of its button, are in
-templates/plan.html.
-"""
+"""The one way for all changes: a form becomes a plan of steps of the program, which is rehearsed and shown; then one
+button does it."""
 import contextlib
 import dataclasses
 import datetime
@@ -35,7 +31,7 @@ from exam_desk.reading import Reading
 from exam_desk.trouble import Stale, Trouble
 from exam_web.desk import AT_ONCE, PATIENCE, Desk, View, desk, office, sums, unseated, view
 from exam_web.forms import Asked, Form, Page, Wrong, attached, keep, lead
-from exam_web.wording import said, text
+from exam_web.wording import link, said, text
 
 pages = Blueprint("proposals", __name__)
 MOST_PROPOSALS = 20  # of a visit
@@ -267,8 +263,7 @@ def rehearse(plan: Plan, here: Desk, who: Office) -> None:
 
 
 def carry_out(plan: Plan, here: Desk, who: Office) -> None:
-    """Does what was rehearsed, if the office is still the same; else rehearses anew, for another look. A lodging moves
-    nobody, so no state has to be the same."""
+    """Does what was rehearsed; where the office is another, but for a lodging, which moves nobody, rehearses anew."""
     plan.moved_on = None
     if plan.lodge:
         plan.is_done = plan.grant(who) != []
@@ -293,12 +288,6 @@ def copy_key(path: str) -> str:
     return hashlib.sha256(os.path.basename(path).encode()).hexdigest()[:16]
 
 
-def forms_of_codes() -> dict[str, str]:
-    """The addresses of the forms that change a session or a paper, by its code."""
-    return {code: url_for("session.page", code=code, _anchor="session") for code in sums(view())} | {
-        code: url_for("session.paper", paper=code) for code, in view().rows("SELECT code FROM paper")}
-
-
 @pages.get("/proposals/<key>")
 def page(key: str) -> str:
     """A plan at its stage: how far it is, what it would change or has changed, or why it cannot be."""
@@ -308,9 +297,12 @@ def page(key: str) -> str:
     kept, following = copies.listed(desk().office) if plan.copy else [], None
     if plan.is_done and plan.asked.form == "decide":
         following = view().row(f"{APPEALS} WHERE state = 1 AND day > ? {BY_DAY}", [desk().office.today().isoformat()])
+    forms = {} if not plan.lines else {  # by the code of a session or a paper what leads to the form that changes it
+        code: link(url_for("session.page", code=code, _anchor="session"), code) for code in sums(view())} | {
+        code: link(url_for("session.paper", paper=code), code) for code, in view().rows("SELECT code FROM paper")}
     since = [copies.when_and_what(each) for each in itertools.takewhile(lambda each: each != plan.copy, kept)]
     return render_template("proposal.html", p=plan, most=MOST_ROWS, next_appeal=following, since=since,
-                           has_copy=plan.copy in kept, forms=forms_of_codes() if plan.lines else {})
+                           has_copy=plan.copy in kept, forms=forms)
 
 
 @pages.post("/proposals/<key>/do")

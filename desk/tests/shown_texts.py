@@ -18,7 +18,9 @@ from jinja2 import nodes
 
 DESK = pathlib.Path(__file__).resolve().parent.parent
 sys.path.insert(0, str(DESK))
-from exam_desk import appeals, backups, keeping, left_behind, losses, mistakes, reasons, refusals, words  # noqa: E402
+from exam_desk import (appeals, backups, files, keeping, left_behind, losses, mistakes, reasons,  # noqa: E402
+                       refusals, words)
+from exam_desk.sheets import slips  # noqa: E402
 from exam_desk.workbook import cells, opening  # noqa: E402
 from exam_web import application, desk, forms, proposals, session, wording  # noqa: E402
 
@@ -58,7 +60,10 @@ OF_KEEP = re.compile("^serving {|^process {|^no answer came|^it has more|it trie
 FORMED = [*mistakes.CURES.values(), mistakes.EMPTY_ROW, *(
     each for module in (mistakes, refusals) for each in sentences(module)
           if re.search(r"[a-z]{2,}\b.* |.* .*\b[a-z]{2,}", each) and not OF_COMMANDS.search(each)),
-          *filter(OF_KEEP.search, sentences(keeping)), "Address already in use"]
+          *filter(OF_KEEP.search, sentences(keeping)), "Address already in use",
+          *filter(re.compile(r"^line |^a (row|\{0}) has|digits$|above$").search, sentences(files)),
+          *filter(re.compile("^the file has|^in no group,").search, sentences(slips)),
+          *(f"{{0}} {word}" for word in ("number", "numbers", "candidate", "candidates"))]
 REASONS = [*(f"no {name}" for name in words.FEATURES), reasons.CLOSES + "{0}", "barred by a granted appeal", "suits",
            "but {0} of {1} desks are taken"]  # why a hall does not suit, parted at commas
 OWN = [*REASONS, proposals.OTHER_OFFICE, proposals.WRONG_DESK, proposals.COMPARING, proposals.LODGING]

@@ -43,7 +43,7 @@ class Backups(sample.SampleSchool):
     def brought(self, **given):
         """The files of the copy of a backup, by their paths in it; and the copy."""
         streams = {name.replace("_", "."): io.BytesIO(text) for name, text in given.items()}
-        with backups.brought(self.value, streams) as (copy, _, _):
+        with backups.brought(self.value, streams) as (copy, _):
             yield copy, {os.path.relpath(os.path.join(place, name), copy): os.path.join(place, name)
                          for place, _, names in os.walk(copy) for name in names}
 

@@ -185,6 +185,8 @@ class TestPrinting(DeskSchool):
         _, page = self.browser.send(*asked, ("<b>.csv", b"number,form\n0001051,10B\n"), status=422)
         self.assertRegex(page, 'name="groups"[^>]*aria-invalid="true"')
         self.assertIn("line 1 must be: number,group", page)
+        _, sheet = self.browser.send(*asked, ("f.csv", b"number;group\n1051;10B\n"), status=200)
+        self.assertIn("<div class=sheet><h2><bdi>10B</bdi>", sheet)
         _, sheet = self.browser.send(*asked, ("", b""), status=200, codes="1")
         self.assertEqual(sheet, self.office("slips", "--codes"))
         _, sheet = self.browser.send(*asked, ("f.csv", b"number,group\n0001051,10B\n"), status=200, session="MON-AM")
