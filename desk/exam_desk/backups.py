@@ -58,7 +58,7 @@ def brought(office: Office, given: Mapping[str, IO[bytes]]) -> Iterator[tuple[st
 
 def written(given: Mapping[str, IO[bytes]]) -> str:
     """When the last of the files that were brought was written, as far as a zip says it; else nothing."""
-    found = [part.date_time for stream in given.values() if zipfile.is_zipfile(stream)
+    found = [part.date_time for stream in given.values() if from_the_start(stream).read(len(ZIP)) == ZIP
              for part in zipfile.ZipFile(stream).infolist()]
     return MOMENT.format(*max(found, default=NEVER)) if max(found, default=NEVER) > NEVER else ""
 

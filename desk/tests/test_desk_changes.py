@@ -5,6 +5,7 @@ import http.client
 import os
 import pathlib
 import re
+import socket
 import threading
 import unittest
 import urllib.parse
@@ -380,10 +381,14 @@ class TestBesideKeep(DeskSchool):
         port = sample.free_port()
         for wrong in ("80", "0090009999"):
             self.browser.post("/office/keep", "/office", 422, what="start", port=wrong)
+        with socket.create_server(("127.0.0.1", 0)) as other:
+            _, text = self.browser.post("/office/keep", "/office", 422, what="start", port=str(other.getsockname()[1]))
+        self.assertIn("cannot be had: Address already in use; take another port", re.sub("<.*?>", "", text))
+        self.assertRegex(text, 'name="port"[^>]*aria-invalid="true"')
         self.browser.post("/office/keep", "/office", what="start", port=str(port))
         self.addCleanup(self.run_office, "keep", "stop")
         self.assertIn(f"127.0.0.1 {port}", self.browser.words("/office"))
-        _, text = self.browser.post("/office/keep", "/office", 500, what="start", port=str(port))
+        _, text = self.browser.post("/office/keep", "/office", 422, what="start", port=str(port))
         self.assertIn("candidates are served already; the page Office says where", text)
         stop, answers = threading.Event(), []
 
