@@ -25,7 +25,6 @@ from exam_web.wording import said, shown, text
 
 MOST_MEMBERS = 64  # of a zip
 MOST_NAME = 80  # letters that are shown
-HIDDEN = "hidden"  # stands in the lines of a reading that speak of hidden rows and sheets
 NO_TABLE = (".pdf", ".doc", ".docx", ".odt", ".rtf", ".pages", ".jpg", ".jpeg", ".png", ".gif", ".webp", ".heic")
 OPEN = "~$"  # how the name begins of the file that Excel keeps beside a workbook that is open in it
 
@@ -178,7 +177,7 @@ def with_cells(upload: Upload, books: list[Book]) -> Iterator[tuple[Book, OpenBo
 
 
 def read_beside(upload: Upload, book: Book, opened: OpenBook) -> Reading | None:
-    """Reads a workbook by the rules of `office read`, beside the office, the files that are taken and the workbooks that
+    """Reads a workbook by the rules of `office read`, beside the office, the files taken and the workbooks that
     were read. What a file of columns says of a sheet holds for the workbook that has it."""
     brought = {kind: [record.fields for record in below_header(content)] for kind, content in upload.texts.items()}
     others = [brought, *(other.rows for other in upload.workbooks if other is not book)]
@@ -192,8 +191,8 @@ def read_beside(upload: Upload, book: Book, opened: OpenBook) -> Reading | None:
         known.take(kind, rows)
     days = {session.decode(): date.decode() for session, date, _ in beside["sessions"]}
     given, way = upload.columns or ({}, book.way)
-    given = {kind: says for kind, says in given.items()
-             if len(upload.workbooks) == 1 or not says.sheet or folded(says.sheet) in there}
+    is_whole = opened.form == "csv" or len(upload.workbooks) == 1  # else another workbook may have the sheet
+    given = {kind: says for kind, says in given.items() if is_whole or not says.sheet or folded(says.sheet) in there}
     way = book.way._replace(words=way.words, dates=book.way.dates or way.dates)
     job = Job(known, way, given, names if book.hidden == "take" else None,
               leave=names if book.hidden == "leave" else [], hidden=book.hidden, days=days)
@@ -219,7 +218,7 @@ def take_book(upload: Upload, book: Book, opened: OpenBook, reading: Reading) ->
                         key=lambda line: line.sort != "mistake")
     book.mistakes, book.changes = report.count("mistake"), report.count("change")
     book.has_hidden = any(sheet.hidden or sheet.hidden_rows for sheet in opened.sheets) and (
-        book.hidden != "" or any(HIDDEN in line.text for line in report.lines))
+        book.hidden != "" or any("hidden" in line.text for line in report.lines))
     book.has_dates = book.way.dates != "" or any(BOTH_DATES in line.text for line in report.lines)
     if book.mistakes:
         return

@@ -50,7 +50,8 @@ def said(words: str | Said, pages: Mapping[str, Markup] = {}) -> Markup:
     for pattern, other in FORMED.get(language(), ()):
         if parts := pattern.fullmatch(words):
             return Markup(other).format(*(said(part) if " " in part else shown(part) for part in parts.groups()))
-    return Markup("<bdi>{}</bdi>").format(Markup("").join(map(command_said, COMMAND.split(plain(words)))))
+    english = "" if language() == "en" else Markup(' lang="en"')  # for who hears it
+    return Markup("<bdi{}>{}</bdi>").format(english, Markup("").join(map(command_said, COMMAND.split(plain(words)))))
 
 
 def link(address: str, value: object) -> Markup:

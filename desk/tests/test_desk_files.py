@@ -407,8 +407,9 @@ class TestFiles(Uploads):
             self.assertIn('"0012001","Nadia Doe","K4WBN7RTQD"', self.browser.ask("GET", page + "/candidates.csv")[1])
         rooms = workbook({"Rooms here": [["Kürzel", "title", "features"], ["R20", "Room", "-"]]})
         more = says + '[halls]\nsheet = "Rooms here"\nhall = "Kürzel"\n'.encode()
-        page = self.upload(("r.xlsx", rooms), ("s.xlsx", workbook({"Pupils": [["Pupil ID", "Forename", "Surname", "Web code"],
-                           [12001, "Nadia", "Doe", "K4WBN7RTQD"]]})), ("columns.toml", more))
+        pupils = workbook({"Pupils": [["Pupil ID", "Forename", "Surname", "Web code"],
+                                      [12001, "Nadia", "Doe", "K4WBN7RTQD"]]})
+        page = self.upload(("r.xlsx", rooms), ("s.xlsx", pupils), ("columns.toml", more))
         self.assertIn("No mistake", self.browser.words(page))  # each says of its own workbook alone
         self.assertIn('"R20","Room","-"', self.browser.ask("GET", page + "/halls.csv")[1])
         for wrong, said in ((b"[pupils]\n", "pupils is none of the seven kinds"), (b"x = " + b"[" * 9999, "recursion"),

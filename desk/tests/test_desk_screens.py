@@ -156,6 +156,7 @@ class TestNewCandidate(DeskSchool):
         self.assertIn("candidates 1 0 0 entries 2 0 0", words)
         self.assertEqual(self.rows("SELECT * FROM candidate WHERE number = 9001"), [])
         self.browser.post(page + "/do", page)
+        self.browser.get(page)  # which waits until it is done
         self.assertEqual(self.rows("SELECT paper FROM entry WHERE number = 9001 ORDER BY 1"), [("EN-1",), ("LAT",)])
 
     def test_a_paper_that_is_not_there_and_the_ticks_stay(self):
