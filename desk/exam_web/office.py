@@ -124,7 +124,7 @@ def back(key: str) -> Response:
     if not is_back:
         wrong = text("tick each of these, or leave the office as it is")
         raise Wrong(("office.copy", {"key": key}), "back", lost=wrong)
-    g.visit.backup, names = None, people(lost)
+    g.visit.backup, names = None, people(lost) if lost else {}
     done = [text("The office is as in {name}.", name=what) if copies.is_brought(path) else
             text("The office is as it was on {when}.", when=when)]
     return lead("office.page", Markup(" ").join(
