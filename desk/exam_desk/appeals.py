@@ -9,10 +9,13 @@ from typing import NamedTuple
 from exam_desk import facts, private
 from exam_desk.office import Office
 from exam_desk.snapshot import Rows
-from exam_desk.words import feature_text
+from exam_desk.words import Said, feature_text
 
 KINDS = {1: "hall", 2: "clash", 3: "arrangement"}
 STATES = {1: "open", 2: "granted", 3: "refused", 4: "retracted", 5: "superseded"}
+STANDING, GONE = "{state}, standing", "gone"
+LOST = "appeal {number} {ref} for {session}: {was} -> {becomes}"
+OTHERWISE = LOST + ", with another answer"
 DAYS_TO_LODGE = {"hall": 2, "clash": 5, "arrangement": 10}  # before the day of the session, by kind
 DAYS_TO_DECIDE = 1
 IS_STANDING = "(number, ref) IN (SELECT number, ref FROM standing)"  # of an appeal
@@ -24,12 +27,13 @@ OPEN = ("SELECT appeal.*, day, name FROM appeal JOIN session ON session.code = s
 class Lodged(NamedTuple):
     """An appeal as `back` compares it."""
     asked: tuple[object, ...]  # the session, what the candidate lodged, and when
-    fate: str
+    fate: Said
     answer: str | None  # of the office
 
 
-def fate(state: int, is_standing: bool) -> str:
-    return STATES.get(state, "?") + (", standing" if is_standing else "")
+def fate(state: int, is_standing: bool) -> Said:
+    word = Said(STATES.get(state, "?"), {})
+    return Said(STANDING, {"state": word}) if is_standing else word
 
 
 def to_lodge(kind: str, session_day: str) -> str:
@@ -77,13 +81,13 @@ def read(office: Office, path: str) -> dict[tuple[str, str], Lodged] | None:
         return None
 
 
-def lost(now: dict[tuple[str, str], Lodged], then: dict[tuple[str, str], Lodged]) -> list[str]:
-    """A line for each appeal, decision and retraction of one state of the office that another has not."""
+def lost(now: dict[tuple[str, str], Lodged], then: dict[tuple[str, str], Lodged]) -> list[Said]:
+    """What is said of each appeal, decision and retraction of one state of the office that another has not."""
     lines = []
     for (number, ref), appeal in sorted(now.items()):
         was = then.get((number, ref))
-        becomes = was.fate if was and was.asked == appeal.asked else "gone"
+        becomes = was.fate if was and was.asked == appeal.asked else Said(GONE, {})
         if was != appeal:
-            another = ", with another answer" if becomes == appeal.fate else ""
-            lines.append(f"appeal {number} {ref} for {appeal.asked[0]}: {appeal.fate} -> {becomes}{another}")
+            lines.append(Said(OTHERWISE if becomes == appeal.fate else LOST, {
+                "number": number, "ref": ref, "session": appeal.asked[0], "was": appeal.fate, "becomes": becomes}))
     return lines

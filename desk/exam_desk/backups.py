@@ -22,6 +22,7 @@ from exam_desk.trouble import Trouble
 from exam_desk.workbook.cells import PASSWORD
 
 OFFICE, ZIP = b"SQLite format 3\0", b"PK\3\4"  # how their bytes begin
+MOMENT, NEVER = "{:04}-{:02}-{:02} {:02}:{:02}:{:02}", (1980, 1, 1, 0, 0, 0)  # what a zip has where nobody said it
 MOST_PARTS = 2000
 MOST_NOTES = 16 << 20  # bytes of a file of a notebook
 NO_OFFICE = "there is no office in it: bring the zip that the page Office hands out, or office.db and office.db-wal"
@@ -63,6 +64,13 @@ def brought(office: Office, given: Mapping[str, IO[bytes]]) -> Iterator[tuple[st
         copies.check(office, path)
         running.run_over(office, path, "migrate")
         yield copy, is_alone
+
+
+def written(given: Mapping[str, IO[bytes]]) -> str:
+    """When the last of the files that were brought was written, as far as a zip says it; else nothing."""
+    found = [part.date_time for stream in given.values() if from_the_start(stream).read(len(ZIP)) == ZIP
+             for part in zipfile.ZipFile(stream).infolist()]
+    return MOMENT.format(*max(found, default=NEVER)) if max(found, default=NEVER) > NEVER else ""
 
 
 def parts_of(given: Mapping[str, IO[bytes]], stack: contextlib.ExitStack) -> Parts:

@@ -96,11 +96,11 @@ def records(text: bytes, comma: bytes = b",") -> Iterator[Record]:
         line = reader.line_num + 1
 
 
-def below_header(text: bytes, path: str, header: Iterable[str]) -> Iterator[Record]:
+def below_header(text: bytes, path: str, header: Iterable[str], comma: bytes = b",") -> Iterator[Record]:
     """The records after the header. Raises `Trouble` where the file is too long, or has another header."""
     if len(text) > MOST_BYTES:
         raise Trouble(f"is longer than {MOST_BYTES} bytes; split it", path)
-    rows = records(text)
+    rows = records(text, comma)
     first = next(rows, None)
     if first is None or first.fields != tuple(map(str.encode, header)):
         raise Trouble(f"line 1 must be: {','.join(header)}", path)
@@ -109,10 +109,11 @@ def below_header(text: bytes, path: str, header: Iterable[str]) -> Iterator[Reco
 
 def texts_by_number(content: bytes, path: str, column: str, most: int,
                     known: Collection[str] | None = None) -> dict[str, str]:
-    """The texts by number of a file that is no import, in order; its header is `number` and the column. Zeros before a
-    number may be missing. `Trouble` where it is no such file, a text is too long, or a number is not a known one."""
+    """The texts by number of a file that is no import, in order; its header is `number` and the column, with a comma or a
+    semicolon. Zeros before a number may be missing. `Trouble` where it is no such file, a text is too long, or a number
+    is not a known one."""
     found: dict[str, str] = {}
-    for row in below_header(content, path, ["number", column]):
+    for row in below_header(content, path, ["number", column], b";" if b";" in content.partition(b"\n")[0] else b","):
         wrong, fields = "", [field.decode("utf-8", "replace") for field in row.fields]
         fields[0] = fields[0].zfill(7) if row.fields[0].isdigit() else fields[0]
         if not row.closed or len(fields) != 2:

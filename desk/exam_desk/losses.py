@@ -30,7 +30,7 @@ def found(office: Office, copy: str) -> list[Said]:
     now, then = appeals.read(office, place), appeals.read(office, copies.file_in(office, copy))
     if now is None:
         return [Said(UNKNOWN, {})]
-    return [*of_others(office, copy), *(Said("{line}", {"line": line}) for line in appeals.lost(now, then or {}))]
+    return [*of_others(office, copy), *appeals.lost(now, then or {})]
 
 
 def of_others(office: Office, copy: str) -> list[Said]:

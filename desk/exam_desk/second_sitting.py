@@ -158,8 +158,7 @@ def own_code(rows: Rows, code: str) -> str:
     """The code of the paper that a paper was made of for second sittings; its own where it was made of none, or may be
     made of several."""
     made = paper_row(rows, code)
-    of = [row["code"] for row in first_papers(rows, made)
-          if (row["day"], row["start"]) < (made["day"], made["start"])]
+    of = [row["code"] for row in first_papers(rows, made) if (row["day"], row["start"]) < (made["day"], made["start"])]
     return own_code(rows, of[0]) if len(of) == 1 else code
 
 

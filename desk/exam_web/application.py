@@ -44,7 +44,7 @@ def make(here: Desk) -> Flask:
     app.url_map.converters["int"] = Number
     wording.prepare(app)
     app.jinja_env.globals.update(
-        FEATURES=FEATURES, MOST_CLASHES=proposals.MOST_CLASHES, RUNNING=session.RUNNING, SHEETS=session.SHEETS,
+        FEATURES=FEATURES, RUNNING=session.RUNNING, SHEETS=session.SHEETS,
         has_handbook=office.HANDBOOK is not None, appeals=appeals, copy_key=proposals.copy_key,
         last_day=appeals.to_decide, tally=people_and_sittings, by_halls=on_paper.by_halls)
     for screen in SCREENS:

@@ -1,12 +1,10 @@
-"""Candidates: the search, their notes, and the page of one with timetable, arrangement, appeals and access code.
-Appeals: the open ones by their last day, and one with what its grant would come to. Two papers at once: who has them,
-whether they have asked to sit the other, a second sitting; and two sessions at one time."""
+"""Candidates: the search, their notes, and the page of one. Appeals: the open ones by their last day, and one with what
+its grant would come to. Two papers at once, a second sitting for who has them; and two sessions at one time."""
 import sqlite3
 from collections.abc import Callable
 from functools import partial
 
 from flask import Blueprint, abort, g, redirect, render_template, request, url_for
-from markupsafe import Markup
 from werkzeug.datastructures import MultiDict
 from werkzeug.wrappers import Response
 
@@ -20,7 +18,7 @@ from exam_web.desk import View, candidate_row, desk, office, once, sums, view
 from exam_web.forms import Form, Page, Wrong, at_field, checked, lead, short, styled, tell_papers
 from exam_web.proposals import APPEALS, BY_DAY, PLANS, TROUBLE, Plan, command, features, import_step
 from exam_web.session import Session
-from exam_web.wording import said, shown, text
+from exam_web.wording import link, said, text
 
 pages = Blueprint("candidates", __name__)
 appeal_pages = Blueprint("appeals", __name__)
@@ -51,8 +49,7 @@ def search(asked: str) -> list[Person]:
 
 
 def papers_without(number: int = -1) -> list[sqlite3.Row]:
-    """The papers for which a candidate is not entered, those of sessions that are over last; without those of second
-    sittings, which have a form of their own."""
+    """The papers that a candidate is not entered for, those of the past last; second sittings have another form."""
     made = {second["code"] for _, second in second_sitting.pairs(view().reading.rows)}
     found = view().rows("SELECT paper.code AS code, title, session, day FROM paper JOIN session "
                         "ON session.code = session WHERE paper.code NOT IN (SELECT paper FROM entry WHERE number = ?) "
@@ -68,9 +65,10 @@ def page(number: int, code: str = "") -> str:
     later = {first["code"] for first, second in second_sitting.pairs(reading.rows)
              if second_sitting.is_live(reading.rows, seven, second["code"])}
     return render_template("candidate.html", who=who, entries=entries, sittings=reading.all_of(seven),
-                           lodged=view().rows(texts.LODGED, [number]), others=papers_without(number), code=code,
-                           second=later, hall_titles=facts.hall_titles(reading.rows),
-                           note=notebook.notes(desk().office).get(seven, ""),
+                           beside=partial(overlaps.beside, overlaps.starts(reading)),
+                           noted=partial(notebook.absent, desk().office), lodged=view().rows(texts.LODGED, [number]),
+                           others=papers_without(number), code=code, hall_titles=facts.hall_titles(reading.rows),
+                           second=later, note=notebook.notes(desk().office).get(seven, ""),
                            granted=proposals.granted(reading, seven),
                            arrangement=view().row("SELECT needs, extra FROM arrangement WHERE number = ?", [number]))
 
@@ -104,8 +102,7 @@ def all_notes() -> Response:
 @pages.post("/candidates/slips")
 @pages.post("/candidates/<int:number>/slip")
 def slips(number: int | None = None) -> str:
-    """The slip of one candidate, or those of all for all sessions or for one; by the groups of a file where one is
-    brought. What is for one has desk numbers."""
+    """The slips of one candidate or of all, for all sessions or one, by a file's groups; for one with desk numbers."""
     only = [] if number is None else [f"{candidate_row(number)['number']:07}"]
     brought, groups = request.files.get("groups"), dict[str, str]()
     if brought:
@@ -205,8 +202,8 @@ def of_one(field: str, step: Callable[[Values], Step], form: Form) -> Plan:
 def rename(form: Form) -> Plan:
     values, page = candidate(form)
     values["other"] = checked(page, form, name="name")["name"]
-    step = coding.renamed(desk().office, values["number"], values["other"])
-    return Plan(values, [step], page, "name", made_for=view().name)
+    make = partial(coding.renamed, desk().office, values["number"], values["other"])
+    return Plan(values, [], page, "name", make=make)
 
 
 def with_code(values: Values) -> Step:
@@ -221,8 +218,8 @@ def new_candidate(form: Form) -> Plan:
     values = checked(form_page, form, number="number", name="name")
     page: Page = ("candidates.page", {"number": int(values["number"])})
     if there := view().row("SELECT name FROM candidate WHERE number = ?", [page[1]["number"]]):
-        link = Markup('<a href="{}">{}</a>').format(url_for(page[0], **page[1]), shown(there["name"]))
-        raise Wrong(form_page, number=text("the office has this number: {name}", name=link))
+        raise Wrong(form_page, number=text("the office has this number: {name}",
+                                           name=link(url_for(page[0], **page[1]), there["name"])))
     values["papers"] = ", ".join(papers := form.getlist("paper"))
     entries = second_sitting.imported("entries", *([values["number"], paper] for paper in papers))
     return Plan(values, [with_code(values), *([entries] if papers else [])], page, "paper", form_page=form_page,
@@ -280,10 +277,7 @@ def of_second(values: Values, page: Page, name: str, make: Callable[[], second_s
 
 
 PLANS.update({
-    "withdraw": partial(of_one, "paper", partial(command, "withdraw", ["number", "paper"])),
-    "reinstate": partial(of_one, "paper", partial(command, "reinstate", ["number", "paper"])),
-    "enter": partial(of_one, "paper", partial(import_step, "entries")),
-    "arrangement": partial(of_one, "extra", partial(import_step, "arrangements")),
-    "code": partial(of_one, "number", with_code), "candidate": new_candidate, "name": rename, "lodge": lodge,
-    "decide": decide, "second": second_plan, "second-back": second_back,
-})
+    **{do: partial(of_one, "paper", partial(command, do, ["number", "paper"])) for do in ("withdraw", "reinstate")},
+    "enter": partial(of_one, "paper", partial(import_step, "entries")), "code": partial(of_one, "number", with_code),
+    "arrangement": partial(of_one, "extra", partial(import_step, "arrangements")), "candidate": new_candidate,
+    "name": rename, "lodge": lodge, "decide": decide, "second": second_plan, "second-back": second_back})

@@ -132,10 +132,8 @@ def two_papers(view: View) -> dict[str, list[str]]:
 
 
 class Desk:
-    """One office, the address of its pages, and the view that they show.
-
-    One thread reads the office as long as the desk lives: the program that answers for a view ends with that thread.
-    """
+    """One office, the address of its pages, and the view that they show. One thread reads the office as long as the
+    desk lives: the program that answers for a view ends with that thread."""
 
     def __init__(self, office: Office, address: str, prefix: str, pretended: bool) -> None:
         """Nothing is read yet: there may be no office."""

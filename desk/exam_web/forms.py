@@ -74,8 +74,7 @@ def tell_papers(papers: Mapping[str, on_paper.Papers]) -> None:
 
 
 def checked(page: Page, form: Form, **columns: str) -> dict[str, str]:
-    """The values of fields, by the forms of the columns that are named; what is wrong is said beside its field. The
-    number of a candidate may be typed without its zeros."""
+    """The values of fields, in the forms of columns; what is wrong stands at its field. A number may lack its zeros."""
     values = {name: form.get(name, "").strip() for name in columns}
     values |= {name: typed.number(values[name]) for name, column in columns.items() if column == "number"}
     wrong = {name: text(mistakes.CURES[column].removesuffix(SHEET_HINT)) for name, column in columns.items()
@@ -89,7 +88,8 @@ def short(page: Page, field: str, form: str = "") -> str:
     """A text that a person wrote, such as a reason. It is private: it is posted, and stands in no address."""
     found = request.form.get(field, "").strip()
     if not typed.is_right(typed.REASON, found):
-        raise Wrong(page, form, **{field: text("at most {most} bytes in one line", most=typed.MOST_REASON)})
+        raise Wrong(page, form, **{field: text(
+            "at most {most} letters in one line (é and other signs count as more than one)", most=typed.MOST_REASON)})
     return found
 
 

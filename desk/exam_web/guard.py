@@ -1,7 +1,5 @@
 """Who may come in: one address, one link, one visit, with initials for the log; and what a page of the desk may load.
-
-Every request passes `Guard.door` and `Guard.check` before a route sees it. A route is open without a visit only where
-its endpoint stands in OPEN.
+Every request passes `Guard.door` and `Guard.check` before a route sees it, open without a visit to those in OPEN alone.
 """
 import contextlib
 import hashlib
@@ -30,20 +28,15 @@ MOST_FROM_STRANGERS = 4096  # bytes of a request without a visit
 MOST_VISITS = 40
 LINKS, COOKIE, MARK = "links", "desk", "mark"
 OPEN = {"entering.page", "entering.enter", "static"}
+REFUSED = {"X-Content-Type-Options": "nosniff", "Cache-Control": "no-store"}
 HEADERS = {
-    "X-Content-Type-Options": "nosniff",
-    "Referrer-Policy": "same-origin",
-    "Cross-Origin-Opener-Policy": "same-origin",
-    "Cross-Origin-Resource-Policy": "same-origin",
-    "X-Frame-Options": "DENY",
-    "Cache-Control": "no-store",
-    "Permissions-Policy": "camera=(), microphone=(), geolocation=()",
-}
+    **REFUSED, **dict.fromkeys(["Referrer-Policy", "Cross-Origin-Opener-Policy", "Cross-Origin-Resource-Policy"],
+                               "same-origin"),
+    "X-Frame-Options": "DENY", "Permissions-Policy": "camera=(), microphone=(), geolocation=()"}
 POLICY = ("default-src 'none'; script-src 'self'; style-src 'self'{}; img-src 'self'; connect-src 'self'; "
           "form-action 'self'; frame-ancestors 'none'; base-uri 'none'")
 STRANGE_HOST = "The desk answers to its own address alone: http://{}. Open it by that address, not by a name.\n"
 NOTHING = "Nothing is here, and nothing was done. `office desk --link` prints a link to the desk.\n"
-REFUSED = {"X-Content-Type-Options": "nosniff", "Cache-Control": "no-store"}
 
 
 @dataclass

@@ -1,7 +1,5 @@
-"""What a browser brings: which of the seven files it is, and the workbooks among it, which are read together.
-
-No name that a browser sends becomes a path: it is compared and shown. A zip is read in memory and never unpacked.
-"""
+"""What a browser brings: which of the seven files it is, and the workbooks among it, which are read together. No name
+that it sends becomes a path: it is compared and shown. A zip is read in memory and never unpacked."""
 import datetime
 import itertools
 import zipfile

@@ -5,19 +5,20 @@ import pathlib
 import re
 import sys
 import weakref
-from collections.abc import Mapping
+from collections.abc import Iterable, Mapping
 from typing import IO
 
-from flask import Blueprint, abort, g, render_template, request
+from flask import Blueprint, abort, g, render_template, request, url_for
 from markupsafe import Markup, escape
 from werkzeug.wrappers import Response
 
-from exam_desk import backups, changing, copies, keeping, logbook, losses, notebook, on_paper, turns
+from exam_desk import backups, changing, copies, facts, keeping, logbook, losses, notebook, on_paper, turns
 from exam_desk.trouble import Stale, Trouble
+from exam_desk.words import Said
 from exam_web.desk import View, desk, office, once, sums, view
 from exam_web.forms import Wrong, archive, at_field, lead, tell_papers, whole
 from exam_web.proposals import MOST_ROWS, Effects, copy_key
-from exam_web.wording import said, text
+from exam_web.wording import link, said, text
 
 pages = Blueprint("office", __name__)
 MOST_LINES = 200  # of the log
@@ -35,6 +36,7 @@ class Backup:
     def __init__(self, given: Mapping[str, IO[bytes]]) -> None:
         stack = contextlib.ExitStack()
         self.path, self.is_alone = stack.enter_context(backups.brought(desk().office, given))
+        self.when = backups.written(given)
         weakref.finalize(self, stack.close)
 
 
@@ -67,14 +69,25 @@ def copy(key: str) -> str:
     """What is another since a copy, and what would be lost by it; what it holds where there is no office to compare."""
     path = copy_of(key)
     when, what = copies.when_and_what(path)
+    since = g.visit.backup.when if copies.is_brought(path) else when
+    lost = losses.found(desk().office, path)
     now: View | None = None
     with contextlib.suppress(Trouble):  # the office is not there, or cannot be read
         now = view()
-    return render_template("copy.html", key=key, when=when, what=what, is_brought=copies.is_brought(path),
-                           e=compared(now, path) if now else None,
-                           held=[] if now else [*sums(view_of(path)).values()],
-                           most=MOST_ROWS, lost=losses.found(desk().office, path), doubts=losses.DOUBTS,
-                           log=[line for line in log_since(when) if line[3] not in (logbook.BEGINS, logbook.STEP)])
+    return render_template("copy.html", key=key, when=when, what=what, is_brought=copies.is_brought(path), since=since,
+                           e=compared(now, path) if now else None, most=MOST_ROWS, doubts=losses.DOUBTS, lost=lost,
+                           held=[] if now else [*sums(view_of(path)).values()], people=people(lost),
+                           log=[line for line in log_since(since) if since and
+                                line[3] not in (logbook.BEGINS, logbook.STEP)])
+
+
+def people(lost: Iterable[Said]) -> dict[str, Markup]:
+    """The candidates of whom this is said, by number; the name of each leads to their page."""
+    found = {each.values.get("number") for each in lost}
+    with contextlib.suppress(Trouble):  # the office is not there, or cannot be read
+        return {number: link(url_for("candidates.page", number=int(number)), f"{name} {number}")
+                for number, name in facts.candidate_names(view().reading.rows).items() if number in found}
+    return {}
 
 
 def view_of(path: str) -> View:
@@ -101,20 +114,21 @@ def back(key: str) -> Response:
     when, what = copies.when_and_what(path)
     try:
         with desk().rehearsing:
-            is_back, _, kept = changing.go_back(office(), ["back"], path,
-                                                lambda lost: ticked.issuperset(map(str, lost)),
+            is_back, lost, kept = changing.go_back(office(), ["back"], path,
+                                                lambda lines: ticked.issuperset(map(str, lines)),
                                                 request.form.get("state", ""))
     except Stale:
-        said = text("Nothing is changed: the office is another than the page showed. This is how it stands now.")
-        return lead("office.copy", said, "bad", key=key)
+        other = text("Nothing is changed: the office is another than the page showed. This is how it stands now.")
+        return lead("office.copy", other, "bad", key=key)
     if not is_back:
         wrong = text("tick each of these, or leave the office as it is")
         raise Wrong(("office.copy", {"key": key}), "back", lost=wrong)
-    g.visit.backup = None
+    g.visit.backup, names = None, people(lost) if lost else {}
     done = [text("The office is as in {name}.", name=what) if copies.is_brought(path) else
             text("The office is as it was on {when}.", when=when)]
     return lead("office.page", Markup(" ").join(
-        [*done, *([text("The office from before is the newest copy.")] if kept else [])]))
+        [*done, *([text("The office from before is the newest copy.")] if kept else []),
+         *(Markup("<br>{}").format(said(line, names)) for line in lost if line.text not in losses.DOUBTS)]))
 
 
 @pages.post("/office/bring")
@@ -158,7 +172,8 @@ def keep() -> Response:
         abort(400)
     if not (re.fullmatch("[0-9]{1,5}", port) and LOWEST_PORT <= int(port) <= HIGHEST_PORT):
         raise Wrong(("office.page", {}), "keep", port=whole(LOWEST_PORT, HIGHEST_PORT))
-    status = keeping.start(office(), [sys.executable, COMMAND, "keep", "run", port])
+    with at_field(("office.page", {}), "keep", "port"):
+        status = keeping.start(office(), [sys.executable, COMMAND, "keep", "run", port])
     return lead("office.page", said(status.sentence), "good" if status.serves else "bad", _anchor="serve")
 
 

@@ -1,9 +1,5 @@
-"""The one way for all changes: a form becomes a plan, the plan is rehearsed and shown, then one button does it.
-
-What forms ask becomes steps of the program. Values have the forms of the import files, and stand under the names of the
-columns that they become; all else the program says. What a plan is called, and the words of its button, are in
-templates/plan.html.
-"""
+"""The one way for all changes: a form becomes a plan of steps of the program, which is rehearsed and shown; then one
+button does it."""
 import contextlib
 import dataclasses
 import datetime
@@ -33,16 +29,16 @@ from exam_desk.office import Office
 from exam_desk.reading import Reading
 from exam_desk.second_sitting import left_behind
 from exam_desk.trouble import Stale, Trouble
-from exam_web.desk import PATIENCE, Desk, View, desk, office, sums, unseated, view
+from exam_web.desk import AT_ONCE, PATIENCE, Desk, View, desk, office, sums, unseated, view
 from exam_web.forms import Asked, Form, Page, Wrong, attached, keep, lead
-from exam_web.wording import said, text
+from exam_web.wording import link, said, text
 
 pages = Blueprint("proposals", __name__)
 MOST_PROPOSALS = 20  # of a visit
 MOST_ROWS = 250  # of a list on the page; all who must be told are in the CSV file
 MOST_LINES = 20  # of the log, where the office was another
 MOST_CLASHES = 100  # new ones that are named
-TICKED = {"loses": 10, "needs": 1, "clashes": 1, "twice": 1, "name": 10}  # by kind: what meets so many candidates wants a tick
+TICKED = {"over": 1, "loses": 10, "needs": 1, "clashes": 1, "twice": 1, "name": 10}  # by kind: from how many on
 COMPARING, LODGING = "Both states are compared", "The appeal is lodged"
 OTHER_OFFICE = ("the office has changed since the page that you came from, so nothing was done: go back to the form, "
                 "and ask once more")
@@ -80,7 +76,8 @@ class Effects(effects.Effects):
         who: dict[str, list[Any]] = {kind: [each.number for each in part] for kind, part in self.kinds.items()} | {
             "over": list(self.over), "past": self.past, "opened": list(self.opened), "shut": self.shut,
             "short": [number for _, number in short],
-            "clashes": [person.number for _, person, _ in self.clashes],
+            "clashes": [number for _, number in {(code, person.number) for code, person, _ in self.clashes}
+                        | {*map(tuple, after.rows(AT_ONCE))} - {*map(tuple, before.rows(AT_ONCE))}],
             "twice": [person.number for _, people in self.overlaps for person in people],
             "halls": [(each.early, each.late, hall) for each, _ in self.overlaps for hall in each.halls],
             "codes": [person.number for person in self.codes]}
@@ -111,6 +108,7 @@ class Plan:
     lodge: tuple[str, ...] = ()  # in the place of steps: the words of an appeal that is lodged the candidate's way
     command: str = ""  # as the log has it, where it is not the steps
     made_for: str = ""  # the state that the steps were made for; "" where they suit each
+    make: Callable[[], Step] | None = None  # the step for the state that there is at a rehearsal
     done: Callable[[], None] = lambda: None  # is called once it is carried out
     look: Callable[[Reading, Reading], Sequence[object]] = left_behind  # says more of a rehearsal, or refuses it
     asked: Asked = field(default_factory=lambda: Asked((request.view_args or {}).get("what", ""), request.form))
@@ -241,7 +239,8 @@ def work(plan: Plan, task: Callable[[Plan, Desk, Office], None]) -> None:
 def rehearse(plan: Plan, here: Desk, who: Office) -> None:
     """Carries the plan out on a private copy, and keeps what that would come to; an appeal is lodged and granted there.
     Raises `Trouble` where the steps were made for another state, whatever they would do in this one."""
-    plan.since, steps = datetime.datetime.now().isoformat(" ", "seconds"), plan.steps
+    plan.since = datetime.datetime.now().isoformat(" ", "seconds")
+    steps = plan.steps = [plan.make()] if plan.make else plan.steps
     with contextlib.ExitStack() as stack:
         if plan.lodge:
             plan.stage = LODGING
@@ -264,8 +263,7 @@ def rehearse(plan: Plan, here: Desk, who: Office) -> None:
 
 
 def carry_out(plan: Plan, here: Desk, who: Office) -> None:
-    """Does what was rehearsed, if the office is still the same; else rehearses anew, for another look. A lodging moves
-    nobody, so no state has to be the same."""
+    """Does what was rehearsed; where the office is another, but for a lodging, which moves nobody, rehearses anew."""
     plan.moved_on = None
     if plan.lodge:
         plan.is_done = plan.grant(who) != []
@@ -290,12 +288,6 @@ def copy_key(path: str) -> str:
     return hashlib.sha256(os.path.basename(path).encode()).hexdigest()[:16]
 
 
-def forms_of_codes() -> dict[str, str]:
-    """The addresses of the forms that change a session or a paper, by its code."""
-    return {code: url_for("session.page", code=code, _anchor="session") for code in sums(view())} | {
-        code: url_for("session.paper", paper=code) for code, in view().rows("SELECT code FROM paper")}
-
-
 @pages.get("/proposals/<key>")
 def page(key: str) -> str:
     """A plan at its stage: how far it is, what it would change or has changed, or why it cannot be."""
@@ -305,9 +297,12 @@ def page(key: str) -> str:
     kept, following = copies.listed(desk().office) if plan.copy else [], None
     if plan.is_done and plan.asked.form == "decide":
         following = view().row(f"{APPEALS} WHERE state = 1 AND day > ? {BY_DAY}", [desk().office.today().isoformat()])
+    forms = {} if not plan.lines else {  # by the code of a session or a paper what leads to the form that changes it
+        code: link(url_for("session.page", code=code, _anchor="session"), code) for code in sums(view())} | {
+        code: link(url_for("session.paper", paper=code), code) for code, in view().rows("SELECT code FROM paper")}
     since = [copies.when_and_what(each) for each in itertools.takewhile(lambda each: each != plan.copy, kept)]
     return render_template("proposal.html", p=plan, most=MOST_ROWS, next_appeal=following, since=since,
-                           has_copy=plan.copy in kept, forms=forms_of_codes() if plan.lines else {})
+                           has_copy=plan.copy in kept, forms=forms)
 
 
 @pages.post("/proposals/<key>/do")

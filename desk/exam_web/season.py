@@ -8,7 +8,7 @@ from typing import Any, NamedTuple
 from flask import Blueprint, render_template, request, url_for
 from werkzeug.wrappers import Response
 
-from exam_desk import appeals, changing, facts, logbook, on_paper, turns
+from exam_desk import appeals, changing, facts, logbook, notebook, on_paper, turns
 from exam_desk.telling import people_and_sittings
 from exam_desk.trouble import Trouble
 from exam_web import candidates
@@ -20,6 +20,7 @@ from exam_web.wording import days_until, text
 pages = Blueprint("season", __name__)
 MOST_SHOWN = 12  # lines of what needs attention
 SOON, URGENT = 14, 3  # days before a session, or the last day to lodge; before the last day to decide, or to print
+RECENT = 7  # days after a session in which it is missed that nobody noted who was absent
 MOST_ASKED = 2_000  # candidates with printed papers of whom the page itself asks the program
 UNHEARD = {None: "clashes", 3: "refused"}  # of two papers at once: the line by the state of an appeal, or of none
 LEVELS = ["late", "now", "soon", "note"]
@@ -71,11 +72,19 @@ def attention(found: list[Sums], is_whole: bool) -> list[Attention]:
     """What to do, the most urgent first; of what the program has to be asked for all only where all is wanted."""
     coming = [each for each in found if days_until(each.day) >= 0]
     compared, left = (coming, []) if is_whole else next_days(coming)
-    todo = [*broken_off(), *out_of_date(compared), *(of_session("compare", each, "print") for each in left),
+    todo = [*out_of_date(compared), *(of_session("compare", each, "print") for each in left),
             *(of_session("short", each, "short", count=each.short) for each in coming if each.short),
             *open_appeals(), *clashes(coming)]
+    if broken := logbook.broken_off(desk().office):  # its process was killed, or the machine stopped
+        link = url_for("office.copy", key=copy_key(broken.copy)) if broken.copy else url_for("office.page")
+        todo.append(Attention("late", None, "broken", link, {"command": broken.command, "when": broken.when}))
     if coming and turns.keep_state(desk().office) is None:
         todo.append(Attention("note", None, "unserved", url_for("office.page", _anchor="serve")))
+    noted = notebook.sessions_with(desk().office, "absent")
+    if late := [each.code for each in found
+                if -RECENT <= days_until(each.day) < 0 < each.members and each.code not in noted]:
+        link = url_for("session.page", code=late[0], _anchor="absent")
+        todo.append(Attention("soon", None, "absent", link, {"sessions": late}))
     todo += at_one_time(coming) if is_whole else ()
     return sorted(todo, key=lambda each: (LEVELS.index(each.level), each.day or "9"))
 
@@ -88,13 +97,6 @@ def of_session(what: str, session: Sums, place: str, **values: object) -> Attent
     """What is mended at a place of the session's page, by its day."""
     link = url_for("session.page", code=session.code, _anchor=place)
     return Attention(level_of(session), session.day, what, link, {"session": session.code, **values})
-
-
-def broken_off() -> Iterator[Attention]:
-    """A change without an end in the log: its process was killed, or the machine stopped."""
-    if found := logbook.broken_off(desk().office):
-        link = url_for("office.copy", key=copy_key(found.copy)) if found.copy else url_for("office.page")
-        yield Attention("late", None, "broken", link, {"command": found.command, "when": found.when})
 
 
 def open_appeals() -> list[Attention]:
@@ -110,8 +112,7 @@ def open_appeals() -> list[Attention]:
 
 
 def clashes(coming: list[Sums]) -> Iterator[Attention]:
-    """How many have two papers at once and no appeal on it that is open or granted, and apart how many of them were
-    refused: by the last day to lodge one or, where that is over, by the day of the session."""
+    """How many have two papers at once and no appeal on it that is open or granted, and apart how many were refused."""
     states = {(code, number): state for code, number, state in view().rows(
         "SELECT session, printf('%07d', number), min(state) FROM appeal WHERE kind = 2 AND state <= 3 GROUP BY 1, 2")}
     for each in coming:
@@ -125,8 +126,7 @@ def clashes(coming: list[Sums]) -> Iterator[Attention]:
 
 
 def next_days(coming: list[Sums]) -> tuple[list[Sums], list[Sums]]:
-    """The sessions of today and the next days of which papers are printed: as many as do not keep the page waiting, and
-    the rest."""
+    """The sessions of the next days with printed papers: as many as do not keep the page waiting, and the rest."""
     near = [each for each in coming
             if days_until(each.day) <= URGENT and on_paper.noted(desk().office, each.code).lines]
     everybody = view().count("SELECT count(*) FROM candidate")

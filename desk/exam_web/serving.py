@@ -46,8 +46,7 @@ def link_of_running(office: Office) -> str:
 
 
 def serve(office: Office, ports: Sequence[int], pretended: bool, ready: Callable[[str], None]) -> None:
-    """Serves until a signal ends it; `ready` is given the first link. Where a desk of the office runs already it is
-    given a link to that one."""
+    """Serves until a signal ends it; `ready` is given the first link, or one to the office's desk that runs already."""
     with turns.lock_file(office, LOCK) as lock, contextlib.ExitStack() as stack:
         if not turns.try_lock(lock):
             ready(link_of_running(office))

@@ -41,8 +41,7 @@ SHEETS = {
     "cards": Sheet("Desk cards", papers.cards), "chart": Sheet("Seating charts", papers.chart),
     "slips": Sheet("Slips for candidates, with desk numbers", lambda reading, session: slips.page(
         reading, slips.Choice(sessions=[session], desks=True))),
-    "board": Sheet("Notice board by name", papers.board), "counts": Sheet("Copies of each paper", papers.counts),
-}
+    "board": Sheet("Notice board by name", papers.board), "counts": Sheet("Copies of each paper", papers.counts)}
 
 
 class Session:
@@ -77,8 +76,7 @@ class Session:
                 for hall in sorted(titles, key=lambda hall: (hall in self.halls, hall))]
 
     def clashes(self, most: int) -> list[tuple[Member, list[str]]]:
-        """Who has two papers at once, and which ones they miss, both as the program says. Who is asked of has two live
-        entries in the rows."""
+        """Who has two papers at once, and which they miss, as the program says of those with two live entries."""
         numbers = two_papers(view()).get(self.code, [])[:most]
         missed = view().reading.clashes(self.code, numbers)
         return [(member, missed[member.number]) for member in view().reading.members(self.code, numbers)
@@ -101,8 +99,7 @@ def page(code: str) -> str:
 
 @once
 def shortage(view: View, code: str) -> dict[str, Any]:
-    """Why a session is short: the program's own account; for some of those without a desk their needs, and the halls by
-    reason; what could help; and what they need that no hall has."""
+    """Why a session is short: the program's account, for some their needs and the halls by reason; what could help."""
     why, sheet = reasons.compared(view.reading, code)
     found = [(member, why.needs(member), [(hall, reason.partition(": ")[0]) for hall, reason in why.of(member)])
              for member in why.unseated()[:MOST_EXPLAINED]]  # who sits in a full hall is left out
@@ -159,8 +156,7 @@ def draw(code: str) -> Response:
 
 @pages.post("/sessions/<code>/absent")
 def note_absent(code: str) -> Response:
-    """Notes as absent who is named by number, or newly ticked; who was shown as absent and is not ticked was there. So
-    what somebody else has noted meanwhile stays."""
+    """Notes who is named or newly ticked; who was shown and is not ticked was there. So what others noted stays."""
     shown, ticked, was = Session(code), *(set(request.form.getlist(name)) for name in ("absent", "was"))
     typed = request.form.get("numbers", "").replace(",", " ").split()
     with at_field(shown.page, "absent", "numbers"):
@@ -184,8 +180,7 @@ def seats_csv(code: str) -> Response:
 
 @pages.get("/sessions/<code>/print/<sheet>")
 def sheet(code: str, sheet: str, hall: Sequence[str] = ()) -> str:
-    """A sheet to print, of all halls or of some, made by the function that the command line uses. A chart asks first
-    how the desks stand, in each hall where nobody has said it."""
+    """A sheet to print, of all halls or of some. A chart asks first how desks stand where nobody has said it."""
     shown, halls = Session(code), hall or request.args.getlist("hall")
     made = SHEETS.get(sheet) or abort(404)
     try:

@@ -45,8 +45,7 @@ class Looked(NamedTuple):
 
 
 def looked_through(upload: Upload, alone: bool = False) -> dict[str, Looked]:
-    """The files with their mistakes, each beside the office and the files before it; also beside the workbooks of which
-    nothing is taken yet, if they are not to stand alone."""
+    """The files with their mistakes, beside the office, the files before them, and unless alone other workbooks."""
     known = mistakes.Known(view().reading.rows)
     for book in upload.workbooks if not alone else ():
         for kind, rows in book.rows.items():
@@ -227,8 +226,7 @@ def with_codes(upload: Upload, page: Page, form: Form) -> dict[str, bytes]:
 
 
 def withdraw_list(upload: Upload, choice: str, page: Page) -> Plan:
-    """Withdraws or reinstates the entries of a list, each by a command of its own. What is no such entry of the office
-    is named and left out."""
+    """Withdraws or reinstates the entries of a list one by one. What is no such entry is named and left out."""
     if upload.kinds != ["entries"]:
         raise Wrong(page, choice=text("upload this list alone: what else is here would not be imported"))
     known, lines = mistakes.Known(view().reading.rows), dict[tuple[bytes, ...], int]()

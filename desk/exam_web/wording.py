@@ -21,6 +21,7 @@ COMMAND = re.compile("(`[^`]+`)")
 NAMED = re.compile("`office (?P<name>[a-z-]+) ?(?:(?P<number>[0-9]{7}) .*|.*)`")
 PAGES = {"back": "office.page", "init": "season.page", "look": "candidates.find"}  # by the command that does the same
 MOST_LETTERS = 10  # of a name at a desk
+PARTICLES = set("von,van,vom,zu,zum,zur,de,der,den,del,della,di,da,dos,du,le,la,ten,ter,al,el,ben,bin".split(","))
 RIGHT_TO_LEFT = ("ar", "fa", "he", "ur")
 LANGUAGES: dict[str, dict[str, str]] = {
     path.stem: json.loads(path.read_text("utf-8"))
@@ -40,9 +41,8 @@ def text(english: str, **values: object) -> Markup:
     return found.format(**{name: shown(value) for name, value in values.items()}) if values else found
 
 
-def said(words: str | Said, pages: Mapping[str, str] = {}) -> Markup:
-    """What a function of the package says: in the reader's language where the table has it, else as it is. A command of
-    the terminal leads to the page that does the same, and a value that has a page to that."""
+def said(words: str | Said, pages: Mapping[str, Markup] = {}) -> Markup:
+    """What the package says, in the reader's language if the table has it. Commands and values lead to their pages."""
     if isinstance(words, Said):
         return text(words.text, **{name: value_said(value, pages) for name, value in words.values.items()})
     if found := LANGUAGES.get(language(), {}).get(words):
@@ -54,13 +54,16 @@ def said(words: str | Said, pages: Mapping[str, str] = {}) -> Markup:
     return Markup("<bdi{}>{}</bdi>").format(english, Markup("").join(map(command_said, COMMAND.split(plain(words)))))
 
 
-def value_said(value: object, pages: Mapping[str, str]) -> Markup:
+def link(address: str, value: object) -> Markup:
+    return Markup('<a href="{}">{}</a>').format(address, shown(value))
+
+
+def value_said(value: object, pages: Mapping[str, Markup]) -> Markup:
     if isinstance(value, list):
         return Markup(", ").join(value_said(each, pages) for each in value)
     if isinstance(value, Said):
         return said(value, pages)
-    address = pages.get(str(value))
-    return Markup('<a href="{}">{}</a>').format(address, shown(value)) if address else shown(value)
+    return pages.get(str(value)) or shown(value)
 
 
 def command_said(part: str) -> str:
@@ -102,8 +105,11 @@ def days_until(iso: str) -> int:
 
 
 def short(name: str) -> str:
-    """The surname and an initial."""
+    """The surname with its particles, and an initial."""
     surname, others = parted(plain(name))
+    while others.rpartition(" ")[0] and others.rpartition(" ")[2].lower() in PARTICLES:
+        others, _, particle = others.rpartition(" ")
+        surname = f"{particle} {surname}"
     initial = next((letter for letter in others if letter.isalnum()), "")
     found = f"{surname or '?'} {initial}".rstrip()
     return found if len(found) <= MOST_LETTERS else found[:MOST_LETTERS - 1] + "…"

@@ -18,7 +18,9 @@ from jinja2 import nodes
 
 DESK = pathlib.Path(__file__).resolve().parent.parent
 sys.path.insert(0, str(DESK))
-from exam_desk import appeals, backups, keeping, losses, mistakes, reasons, refusals, second_sitting, words  # noqa: E402
+from exam_desk import (appeals, backups, files, keeping, losses, mistakes, reasons, refusals,  # noqa: E402
+                       second_sitting, words)
+from exam_desk.sheets import slips  # noqa: E402
 from exam_desk.workbook import cells, opening  # noqa: E402
 from exam_web import application, desk, forms, proposals, session, wording  # noqa: E402
 
@@ -53,9 +55,15 @@ def sentences(module):
                                   for value in part.values)
 
 
+OF_KEEP = re.compile("^serving {|^process {|^no answer came|^it has more|it tries again|^`keep` (runs|does)|^the last line|"
+                     r"cannot be had: \{1")
 FORMED = [*mistakes.CURES.values(), mistakes.EMPTY_ROW, *(
     each for module in (mistakes, refusals) for each in sentences(module)
-          if re.search(r"[a-z]{2,}\b.* |.* .*\b[a-z]{2,}", each) and not OF_COMMANDS.search(each))]
+          if re.search(r"[a-z]{2,}\b.* |.* .*\b[a-z]{2,}", each) and not OF_COMMANDS.search(each)),
+          *filter(OF_KEEP.search, sentences(keeping)), "Address already in use",
+          *filter(re.compile(r"^line |^a (row|\{0}) has|digits$|above$").search, sentences(files)),
+          *filter(re.compile("^the file has|^in no group,").search, sentences(slips)),
+          *(f"{{0}} {word}" for word in ("number", "numbers", "candidate", "candidates"))]
 REASONS = [*(f"no {name}" for name in words.FEATURES), reasons.CLOSES + "{0}", "barred by a granted appeal", "suits",
            "but {0} of {1} desks are taken"]  # why a hall does not suit, parted at commas
 OWN = [*REASONS, proposals.OTHER_OFFICE, proposals.WRONG_DESK, proposals.COMPARING, proposals.LODGING]
@@ -180,7 +188,8 @@ def main():
     found.update(re.findall(r'\btext\("((?:[^"\\]|\\.)*)"', (DESK / "exam_web/wording.py").read_text("utf-8")))
     for table in TABLES.values():
         found.update(table)
-    found.update(SAID, OPENED, FORMED, OWN, second_sitting.TEXTS, [losses.OTHERS, losses.NAMED, losses.UNKNOWN])
+    found.update(SAID, OPENED, FORMED, OWN, second_sitting.TEXTS, [losses.OTHERS, losses.NAMED, losses.UNKNOWN],
+                 [appeals.LOST, appeals.OTHERWISE, appeals.STANDING, appeals.GONE])
     print(json.dumps({"found": sorted(found), "lost": lost}))
 
 

@@ -45,8 +45,13 @@ class TestBroughtBack(Backups):
         later = snapshot.name_now(self.value)
         page, _ = self.browser.send(*BRING, (name, content))
         words = self.browser.words(page)
-        for said in (name, "What would change", "1 would join a session", f"lost: tick each {LOST}"):
+        [(person,)] = self.rows("SELECT name FROM candidate WHERE number = 1119")
+        lost = f"appeal {person} 0001119 D1 for MON-AM : open -> gone"
+        for said in (name, "What would change", "1 would join a session", f"lost: tick each {lost}",
+                     "What was done since", "withdraw 0001051 PH-1", f"{name} a backup of 20"):
             self.assertIn(said, words)
+        self.assertIn(f"Einspruch D1 von {person} 0001119 für MON-AM: offen → nicht mehr da",
+                      re.sub("<.*?>", "", self.browser.ask("GET", page, headers={"Accept-Language": "de"})[1]))
         self.assertIn(f"{name} a backup that you brought", self.browser.words("/office"))
         self.put_back(page, 422)
         self.put_back(page, state="0" * 64, lost=LOST)
@@ -55,7 +60,7 @@ class TestBroughtBack(Backups):
         self.put_back(page, lost=LOST)
         self.assertEqual((snapshot.name_now(self.value), self.rows("SELECT * FROM appeal")), (before, []))
         words = self.browser.words("/office")
-        self.assertIn(f"The office is as in {name} . The office from before is the newest copy.", words)
+        self.assertIn(f"The office is as in {name} . The office from before is the newest copy. {lost}", words)
         self.assertRegex(words, f" back to {name} What changed since")
         self.assertEqual(self.left(), [])
         self.browser.get(page, 404)
@@ -116,7 +121,9 @@ class TestBroughtBack(Backups):
         for found, is_alone in ((files[:1], True), ([("x.zip", zipped(dict(files[:1])))], True), (files, False),
                                 ([self.handed_out()], False)):
             page, _ = self.browser.send(*BRING, *found)
-            self.assertEqual("the last changes may be missing" in self.browser.words(page), is_alone, found[0][0])
+            words = self.browser.words(page)
+            self.assertEqual("the last changes may be missing" in words, is_alone, found[0][0])
+            self.assertEqual("do not say from when it is" in words, not found[0][0].endswith(".zip"))
 
     def test_what_is_none_is_refused_at_its_field(self):
         before = snapshot.name_now(self.value)

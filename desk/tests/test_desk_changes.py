@@ -5,6 +5,7 @@ import http.client
 import os
 import pathlib
 import re
+import socket
 import threading
 import unittest
 import urllib.parse
@@ -74,7 +75,10 @@ class TestRehearsal(DeskSchool):
                                     hall="R14", desks="30", until="14:00")
         alone, together = (effects(self.browser.get(each)) for each in (page, both))
         self.assertLess(together.get("loses", (0, 0)), alone["loses"])
+        in_it = "SELECT number FROM seat WHERE session = 'MON-AM' AND hall = 'R14'"
+        before, said = self.rows(in_it), self.browser.words(both)
         self.browser.post(both + "/do", both)
+        self.assertIn(f" {len({*self.rows(in_it)} - {*before})} candidates come into R14 .", said)
         self.assertEqual(self.rows("SELECT desks FROM opening WHERE session = 'MON-AM' AND hall IN ('GYM', 'R14')"),
                          [(30,)])
         for values in ({"hall": "GYM"}, {"desks": "0"}, {"until": "25:00"}, {"new_hall": "GYM", "new_title": "x"},
@@ -130,6 +134,15 @@ class TestRehearsal(DeskSchool):
         self.browser.post(page + "/do", page)  # from what is shown now
         self.assertIn("What changed", self.browser.words(page))
         self.assertNotEqual(self.seats(), before)
+
+    def test_another_name_is_rehearsed_anew_with_the_code_that_there_is_now(self):
+        page, _ = self.browser.post("/propose/name", "/candidates/1051", number="0001051", name="Di Marsh")
+        row = "number,name,code\n0001051,Di Berg,OTHERCODE1\n"
+        self.office("import", "candidates", self.write("candidates.csv", row))
+        self.browser.post(page + "/do", page)
+        self.assertIn("so nothing was done", self.browser.words(page))
+        self.browser.post(page + "/do", page)
+        self.assertEqual(self.rows("SELECT name, code FROM candidate WHERE number = 1051"), [("Di Marsh", "OTHERCODE1")])
 
     def test_two_tabs(self):
         pages = [self.browser.post("/propose/withdraw", "/candidates/1051", number="0001051", paper=paper)[0]
@@ -368,10 +381,14 @@ class TestBesideKeep(DeskSchool):
         port = sample.free_port()
         for wrong in ("80", "0090009999"):
             self.browser.post("/office/keep", "/office", 422, what="start", port=wrong)
+        with socket.create_server(("127.0.0.1", 0)) as other:
+            _, text = self.browser.post("/office/keep", "/office", 422, what="start", port=str(other.getsockname()[1]))
+        self.assertIn("cannot be had: Address already in use; take another port", re.sub("<.*?>", "", text))
+        self.assertRegex(text, 'name="port"[^>]*aria-invalid="true"')
         self.browser.post("/office/keep", "/office", what="start", port=str(port))
         self.addCleanup(self.run_office, "keep", "stop")
         self.assertIn(f"127.0.0.1 {port}", self.browser.words("/office"))
-        _, text = self.browser.post("/office/keep", "/office", 500, what="start", port=str(port))
+        _, text = self.browser.post("/office/keep", "/office", 422, what="start", port=str(port))
         self.assertIn("candidates are served already; the page Office says where", text)
         stop, answers = threading.Event(), []
 

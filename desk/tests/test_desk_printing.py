@@ -186,6 +186,8 @@ class TestPrinting(DeskSchool):
         _, page = self.browser.send(*asked, ("<b>.csv", b"number,form\n0001051,10B\n"), status=422)
         self.assertRegex(page, 'name="groups"[^>]*aria-invalid="true"')
         self.assertIn("line 1 must be: number,group", page)
+        _, sheet = self.browser.send(*asked, ("f.csv", b"number;group\n1051;10B\n"), status=200)
+        self.assertIn("<div class=sheet><h2><bdi>10B</bdi>", sheet)
         _, sheet = self.browser.send(*asked, ("", b""), status=200, codes="1")
         self.assertEqual(sheet, self.office("slips", "--codes"))
         _, sheet = self.browser.send(*asked, ("f.csv", b"number,group\n0001051,10B\n"), status=200, session="MON-AM")
@@ -293,6 +295,16 @@ class TestTheDay(DeskSchool):
         self.assertNotIn(self.NOTHING_NOTED, self.browser.words(page))
         self.assertNotIn('"absent"', self.office("absent", "MON-AM"))
         self.assertEqual(self.seats(), before)
+
+    def test_on_the_page_of_who_was_absent(self):
+        """0001051 has two papers in MON-AM, and sits one; MON-PM is on that day too."""
+        self.office("absent", "MON-AM", "0001051")
+        text = self.browser.get("/candidates/1051")
+        self.assertEqual(text.count("noted as absent"), 1)
+        self.assertEqual(re.findall('/sessions/([^"/]*)#absent"', text), ["MON-PM"])
+        self.browser.post("/sessions/MON-AM/absent", "/candidates/1051", was="0001051")
+        self.assertIsNone(notebook.absent(self.value, "MON-AM"))
+        self.assertNotIn("Was there after all", self.browser.get("/candidates/1051"))
 
     def test_what_a_colleague_has_noted_stays(self):
         """A list that was loaded before is sent, with one more tick in it, and without one that it showed."""

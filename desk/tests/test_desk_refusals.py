@@ -66,7 +66,7 @@ class TestRefusals(DeskSchool):
                 ({"kind": ""}, "choose one", "kind"), ({"session": "no"}, "1 to 12 of A-Z", "session"),
                 ({"session": "NO-AM"}, 12, "session"), ({"wanted_hall": "no"}, "1 to 8 of A-Z", "wanted_hall"),
                 ({"wanted_hall": "ZZ"}, 11, "wanted_hall"), ({"wanted_hall": "GYM"}, 11, "wanted_hall"),
-                ({"reason": "é" * 101}, "at most 200 bytes", "reason"),
+                ({"reason": "é" * 101}, "at most 200 letters", "reason"),
                 ({"kind": "clash", "wanted_clash": "NO-1"}, 8, "wanted_clash"),
                 ({"kind": "clash", "wanted_clash": "MA-2"}, 8, "wanted_clash"),
                 ({"kind": "clash", "wanted_clash": "CS-1"}, 19, "wanted_clash"),

@@ -63,7 +63,7 @@ class TestPapers(Rows):
     def test_refused_at_its_field(self):
         self.refused("paper", "/papers/SHORT", self.FORM, {
             ("session", "NONE"): "the office has no such session", ("session", "no"): "1 to 12 of A-Z",
-            ("title", ""): "1 to 80 bytes", ("title", "x" * 81): "1 to 80 bytes", ("title", "a\nb"): "1 to 80 bytes",
+            ("title", ""): "1 to 80 letters", ("title", "x" * 81): "1 to 80 letters", ("title", "a\nb"): "1 to 80 letters",
             **{("minutes", wrong): "from 1 to 600" for wrong in ("0", "601", "1.5")}})
         for values in ({"paper": "NONE"}, {"paper": "--db=x"}, {"at": "NONE"}):
             self.browser.post("/propose/paper", "/papers/SHORT", 404, **{**self.FORM, **values})
@@ -141,7 +141,7 @@ class TestHalls(Rows):
         self.browser.post(page + "/do", page)
         self.assertEqual((self.rows("SELECT title, features FROM hall WHERE code = 'A'"), self.seats()),
                          ([("Aula <b>", 0)], []))
-        self.refused("hall", HALL, form, {("title", ""): "1 to 80 bytes"})
+        self.refused("hall", HALL, form, {("title", ""): "1 to 80 letters"})
         self.browser.post("/propose/hall", HALL, 404, **{**form, "hall": "NONE"})
 
     def test_the_copies_say_how_a_hall_is_to_be_open(self):

@@ -188,8 +188,8 @@ class TestNewCandidate(DeskSchool):
                 ({"number": "1051"}, "the office has this number", "number"),
                 *(({"number": wrong}, "seven digits", "number")
                   for wrong in ("", "0", "0000000", "12345678", "９００１")),
-                ({"name": ""}, "1 to 80 bytes", "name"),
-                ({"name": "x" * 81}, "1 to 80 bytes", "name"), ({"name": "a\nb"}, "1 to 80 bytes", "name")):
+                ({"name": ""}, "1 to 80 letters", "name"),
+                ({"name": "x" * 81}, "1 to 80 letters", "name"), ({"name": "a\nb"}, "1 to 80 letters", "name")):
             _, text = self.browser.post("/propose/candidate", "/candidates", 422, **{**self.NEW, **values})
             self.assertRegex(text, rf'name="{field}"[^>]*aria-invalid="true"', values)
             self.assertIn(said, text, values)
@@ -268,6 +268,9 @@ class TestHearing(DeskSchool):
         self.assertIn('<a href="#fault-lodge-kind">', text)
         self.assertRegex(text, 'name="kind" value="hall" [^>]*aria-invalid="true" aria-describedby="fault-lodge-kind"')
         self.assertEqual(text.count('id="fault-lodge-kind"'), 1)
+        _, text = self.browser.post("/propose/candidate", "/candidates", 422, number="x", name="")
+        self.assertRegex(text, r'Number: seven digits <a href="#fault-candidate-number">To the field</a>'
+                               r'<br>Name: 1 to 80 letters [^<]*<a href="#fault-candidate-name">')
 
 
 HELP = r'<a href="([^"]+/handbook)#([^"]+)">([^<]+)</a>'

@@ -153,6 +153,19 @@ class TestWhatNeedsAPerson(DeskSchool):
         for link in ("/candidates/1000", "/sessions/HL#hall-AULA", "/sessions/MON-AM"):
             self.assertIn(f'href="{self.browser.prefix}{link}"', text)
         self.browser.get("/sessions/HL")
+        person = self.browser.get("/candidates/1000")
+        self.assertEqual(re.findall("also (?:<bdi>)?(.*?)(?:</bdi>)?, at the same time", person), ["HL-1", "MA-1"])
+
+    def test_of_whom_nobody_noted_that_they_were_absent(self):
+        """MON-AM and MON-PM are on 7 June 2027, TUE-AM a day later."""
+        begin = "Nobody has noted yet who was absent: "
+        self.assertNotIn(begin, self.browser.words("/"))
+        for today, said in (("2027-06-08", "MON-AM, MON-PM"), ("2027-06-08", "MON-PM"), ("2027-06-15", "TUE-AM")):
+            self.end()
+            self.environment["TODAY"] = today
+            self.start()
+            self.assertEqual(self.line("/", begin), (said, f"/sessions/{said.split(',')[0]}#absent"))
+            self.office("absent", "MON-AM", "--nobody")
 
     def test_the_most_urgent_stands_first(self):
         self.office("lodge", "0001051", "MON-AM", "hall", "PC1", "")

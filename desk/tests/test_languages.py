@@ -39,11 +39,22 @@ class TestTexts(unittest.TestCase):
     def test_a_sentence_that_has_its_values_is_known_again(self):
         """A value of one word stays as it is, since somebody may have to write it: `no` is no "nein" there."""
         said = ["write no (yes or no)", "no papers are known, so these are not compared",
-                "2 in place of 3 fields; values are missing", "write <b>no (yes or no)", "nothing of it"]
+                "2 in place of 3 fields; values are missing", "write <b>no (yes or no)", "line 1 must be: number,group",
+                "`keep` does not run; the last line of /a/keep.log: 127.0.0.1 80 cannot be had: Address already in use",
+                "nothing of it"]
         done = subprocess.run([PYTHON, "-B", "-c", SAY, DESK, *said], capture_output=True, text=True, check=True)
         self.assertEqual(re.sub("</?bdi>", "", done.stdout).splitlines(), [
             "no schreiben (yes oder no)", "papers: keine bekannt, also wird das nicht verglichen",
-            "2 statt 3 Felder; es fehlen Werte", "&lt;b&gt;no schreiben (yes oder no)", '<bdi lang="en">nothing of it'])
+            "2 statt 3 Felder; es fehlen Werte", "&lt;b&gt;no schreiben (yes oder no)",
+            "die erste Zeile muss so heißen: number,group", "die Seite der Prüflinge läuft nicht; die letzte Zeile von "
+            '/a/keep.log: <bdi lang="en">127.0.0.1 80 ist nicht zu haben: schon belegt; einen anderen Port nehmen',
+            '<bdi lang="en">nothing of it'])
+
+    def test_a_name_at_a_desk_keeps_its_particles_and_is_cut_at_its_end(self):
+        shorten = SAY.replace("wording.said", "wording.short")
+        names = ["Gisela von der Heide", "von der Heide, Gisela", "François Le Goff", "Ada Lin", "Le Goff", "Mononym"]
+        done = subprocess.run([PYTHON, "-B", "-c", shorten, DESK, *names], capture_output=True, text=True, check=True)
+        self.assertEqual(done.stdout.splitlines(), ["von der H…", "von der H…", "Le Goff F", "Lin A", "Goff L", "Mononym"])
 
 
 class TestGerman(DeskSchool):

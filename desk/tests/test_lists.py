@@ -358,7 +358,7 @@ class Lost(unittest.TestCase):
         for then, becomes in ((None, "gone"), (lodged._replace(asked=("TUE-AM", 1, "PC1")), "gone"),
                               (lodged._replace(fate="open", answer=None), "open"),
                               (lodged._replace(answer="yes"), "refused, with another answer")):
-            self.assertEqual(appeals.lost({who: lodged}, {who: then} if then else {}),
+            self.assertEqual([*map(str, appeals.lost({who: lodged}, {who: then} if then else {}))],
                              [f"appeal 0001051 HA1 for MON-AM: refused -> {becomes}"])
         self.assertEqual(appeals.lost({who: lodged}, {who: lodged}), [])
         self.assertEqual(appeals.lost({}, {who: lodged}), [])
