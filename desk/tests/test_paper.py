@@ -112,16 +112,15 @@ class Papers(sample.SampleSchool):
 
     def test_doors(self):
         text = self.office("doors", "MON-AM")
-        self.assertEqual(text.count("<div class=sheet>"), 6)  # two of GYM: 24 rows, and below them a table of three papers
-        rows = self.rows("doors", "MON-AM", "LIB")
+        self.assertEqual(text.count("<div class=sheet>"), 5)
+        rows, left = self.rows("doors", "MON-AM", "LIB"), " \N{EN SPACE} present ____ \N{EN SPACE} scripts ____"
         self.assertEqual(rows[:3], [
             ["Monday, 7 June 2027, 09:00 (MON-AM)|open until 14:00, last finish 12:08|6 desks, 6 candidates expected"
-             "Library|LIB, page 1 of 1|LAT Latin: 1|MA-1 Mathematics 1: 3|MA-2 Mathematics 2: 2"],
+             f"Library|LIB, page 1 of 1|LAT Latin: 1{left}|MA-1 Mathematics 1: 3{left}|MA-2 Mathematics 2: 2{left}"],
             ["Desk", "Number", "Name", "Paper", "Finish", "Arrangement", "Signature"],
             ["1", "0001153", "Jana Roe", "LAT", "10:53", "25 % extra time, screen", ""]])
-        self.assertEqual(rows[8][0][:18], "Present: ________ ")
-        self.assertEqual(rows[9:], [["Paper", "Expected", "Present", "Scripts", "Collected by"],
-                                    ["LAT", "1", "", "", ""], ["MA-1", "3", "", "", ""], ["MA-2", "2", "", "", ""]])
+        self.assertEqual([row[0].split(": ____")[:4] for row in rows[8:]],
+                         [["Present", " \N{EN SPACE} Absent", " \N{EN SPACE} Scripts", " \N{EN SPACE} Collected by"]])
         self.assertIn("nobody sits in PC9 in MON-AM; somebody sits in AULA, GYM, LIB, PC1, R12\n",
                       self.refused("doors", "MON-AM", "PC9"))
 

@@ -39,15 +39,16 @@ TOLD = ["w:Session", "w:Number", "Name", "Before", "Now", "box:Told"]
 SAT = "{}<br>{}<br>{}, <span class=w>{}–{}</span>"
 
 DOORS = ["n:Desk", "w:Number", "Name", "Paper", "w:Finish", "Arrangement", "sign:Signature"]
-COLLECTED = ["Paper", "n:Expected", "box:Present", "box:Scripts", "sign:Collected by"]
 LATER = "or later"  # below the finish of who has a note, since it may be of rest breaks
 ABOVE = "<span>{}<br>open until {}, last finish {}<br>{}, {} expected</span><b>{}</b><br>{}, page {} of {}<br>{}"
-BELOW = Markup("Present: ________ &emsp; Absent: ________ &emsp; Invigilator: ______________________________")
+COLLECTED = Markup("{}: {} &ensp; present ____ &ensp; scripts ____")  # for each of several papers of a hall
+BELOW = Markup("Present: ____ &ensp; Absent: ____ &ensp; Scripts: ____ &ensp; Collected by: __________ &ensp; "
+               "Invigilator: __________")
 # Estimates in millimetres, rather too large than too small: so a page of A4 can say which of how many it is.
 HEIGHT = 267  # of a page between the margins
 LINE = 4.6  # of a line of 10 points
 ROW, HEADING, LAST = 9.05, 16.0, 11.5  # heights of a row, of a heading without titles, of the line below all
-NAME, ARRANGEMENT, TITLES = 50.0, 34.0, 90.0  # widths of these texts
+NAME, ARRANGEMENT, TITLE, PAPER = 50.0, 34.0, 90.0, 140.0  # widths of these texts
 ON_CARD, LINES_OF_CARD, ON_CHART, ON_POSTER = 75, 120, 60, 70  # how wide large letters may be, if they had 10 points
 WIDE = "WFA"  # letters that are as wide as high, or may be
 MARKS = {"Mn", "Me", "Cf"}  # stand over other letters, or nowhere
@@ -228,18 +229,17 @@ def of_door(heading: Markup, titles: Mapping[str, Markup], opening: facts.Openin
             others: list[str], found: list[Row]) -> Iterator[Markup]:
     """The pages of a hall: each is a table, whose heading says which it is, and which other sessions are there."""
     counted = sorted(Counter(member.sitting.paper for member in members).items())
-    said = [*(html("{}: {}", titles[code], count) for code, count in counted), *map(safe, others)]
+    line = COLLECTED if len(counted) > 1 else Markup("{}: {}")
+    said = [*(html(line, titles[code], count) for code, count in counted), *map(safe, others)]
     rows, heights = zip(*found)
-    above = lines([opening.title, *(each.striptags() for each in said)], TITLES)
-    parts = parted(heights, HEIGHT - HEADING - LINE * max(3, above), LAST + ROW * (1 + len(counted)))
-    end = BELOW, table(COLLECTED, [[code, count, "", "", ""] for code, count in counted], name="collected")
+    above = lines([opening.title], TITLE) + lines((each.striptags() for each in said), PAPER)
+    parts = parted(heights, HEIGHT - HEADING - LINE * max(3, above), LAST)
     last = max(member.sitting.finish for member in members)
     for place, part in enumerate(parts, 1):
         head = html(ABOVE, heading, clock(opening.until), last, lists.count(opening.desks, "desk"),
                     lists.count(len(members), "candidate"), text(opening.title), opening.hall, place, len(parts),
                     joined(said, "<br>"))
-        below_it, scripts = end if place == len(parts) else (Markup(), Markup())
-        yield table(DOORS, rows[part], head, below_it) + scripts
+        yield table(DOORS, rows[part], head, BELOW if place == len(parts) else Markup())
 
 
 def row_of(member: Member, papers: Mapping[str, Markup], told: Iterable[str], printed: Mapping[str, Line],
