@@ -161,7 +161,7 @@ def cure(column: str, field: bytes) -> Cure:
 def no_codes(count: int, kept: int = 0) -> str:
     """What is said once of all candidates without an access code, of whom the office has so many with one."""
     way = f"`office take ..` fills in {kept} from the office" if kept else "`office take .. --codes` makes them"
-    others = f"{way}, and `office take .. --codes` makes the others" if 0 < kept < count else way
+    others = f"{way}, and with --codes makes the others" if 0 < kept < count else way
     return f"{lists.count(count, 'candidate')} {'has' if count == 1 else 'have'} no access code; {others}"
 
 

@@ -89,7 +89,7 @@ class TestTaken(Backups):
     def test_a_full_disk_keeps_none_back(self):
         """It is packed in TMPDIR then; where the new file has no room, nothing of it is left."""
         full = OSError(errno.ENOSPC, "No space left on device")
-        with mock.patch("exam_desk.private.own_folder", side_effect=full):
+        with mock.patch("exam_desk.beside.make_folder", side_effect=full):
             content = private.zipped(self.path, "x", lambda folder: backups.fill(self.value, folder))
         with zipfile.ZipFile(io.BytesIO(content)) as archive:
             self.assertEqual(archive.read("x/office.db"), self.first)

@@ -40,9 +40,9 @@ class Looking(sample.SampleSchool):
                 other.bind(("127.0.0.1", 0))
                 other.listen()
                 port = other.getsockname()[1]
-                self.assertEqual(self.refused("keep", "start", str(port)),
-                                 f"office: `keep` does not run; the last line of {self.desk}/keep.log: 127.0.0.1 {port} "
-                                 "cannot be had: Address already in use\n")
+                self.assertRegex(self.refused("keep", "start", str(port)),
+                                 f"^office: `keep` does not run; the last line of {self.desk}/keep.log: 127.0.0.1 "
+                                 rf"{port} \(process \d+, python3; \d+ is free\) cannot be had: Address already in use\n$")
 
 
 if __name__ == "__main__":

@@ -145,9 +145,6 @@ class Papers(sample.SampleSchool):
                      "What would help: more desks there, or another hall that suits some of them.<",
                      self.office("why", "TUE-AM").partition("what could help")[0]):
             self.assertIn(part, text)
-        self.office("open-hall", "TUE-AM", "LIB", "2", "10:00")
-        self.assertIn("What would help: another hall that suits some of them, or a hall open for longer.<",
-                      self.office("session-page", "TUE-AM"))
         self.assertIn("no session XX", self.refused("session-page", "XX"))
         drawn = []
         for most in (4, 3):  # four are on the sheet: two sit in LIB, and two have no desk
@@ -155,6 +152,9 @@ class Papers(sample.SampleSchool):
                 text = session_page.Page(reading, "TUE-AM").document().partition("<div class=cards>")[2]
                 drawn.append(re.findall(r"<ol>(.*?)</ol>", text))
         self.assertEqual([[chips.count("<li>") for chips in lists] for lists in drawn], [[2, 2], [0, 2]])
+        self.office("open-hall", "TUE-AM", "LIB", "2", "10:00")
+        self.assertIn("What would help: another hall that suits some of them, or a hall open for longer.<",
+                      self.office("session-page", "TUE-AM"))
 
     def change(self, *statements):
         """Changes rows that no seat depends on."""
