@@ -202,9 +202,7 @@ class Lodging(Change):
         return self(replace(rehearsal.office, path=rehearsal.after))
 
     def __call__(self, office: Office | None = None) -> int:
-        found = lodging.lodge(office or command.office(), self.words)
-        (command.complain if found.status else command.say_lines)([found.line, *found.explained])
-        return found.status
+        return said(*lodging.lodge(office or command.office(), self.words))
 
 
 @contextlib.contextmanager

@@ -5,6 +5,7 @@ import contextlib
 import datetime
 import filecmp
 import os
+import pathlib
 import re
 import shutil
 import sqlite3
@@ -175,16 +176,9 @@ def check(office: Office, path: str) -> None:
 
 
 def in_one_file(path: str) -> None:
-    """Takes the second file of an office into the first."""
+    """Takes the second file of an office into the first; SQLite removes it with the last connection."""
     with contextlib.closing(sqlite3.connect(path)) as file:
         file.execute("PRAGMA wal_checkpoint(TRUNCATE)")
-    remove_second(path)
-
-
-def remove_second(path: str) -> None:
-    for ending in ("-wal", "-shm"):
-        with contextlib.suppress(FileNotFoundError):
-            os.remove(path + ending)
 
 
 @contextlib.contextmanager
@@ -204,7 +198,8 @@ def move_in(office: Office, path: str) -> None:
     if os.path.exists(place):
         with contextlib.suppress(sqlite3.Error):  # what is damaged, or has no room, is in a copy
             in_one_file(place)
-    remove_second(place)
+    for ending in ("-wal", "-shm"):
+        pathlib.Path(place + ending).unlink(missing_ok=True)
     beside.sync(os.path.dirname(place))
     os.replace(path, place)
     beside.sync(os.path.dirname(place))

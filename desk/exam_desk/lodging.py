@@ -6,22 +6,17 @@ import functools
 import itertools
 import json
 from collections.abc import Iterator, Sequence
-from typing import NamedTuple, NoReturn
+from typing import NoReturn
 
 from exam_desk import asking, beside, logbook, refusals, snapshot, turns, typed
 from exam_desk.asking import Serve
+from exam_desk.changing import Answered, Step
 from exam_desk.office import Office
+from exam_desk.running import Ran
 from exam_desk.trouble import Trouble
 
 TRIES, SECONDS = 3, 60
 KINDS = typed.APPEALS
-
-
-class Lodged(NamedTuple):
-    """What the program answered: a status, the line on it, and what it means where it is a refusal."""
-    status: int
-    line: str
-    explained: list[str]
 
 
 def asked(words: Sequence[str]) -> dict[str, str | int]:
@@ -75,8 +70,9 @@ def post(server: asking.Server, number: str, code: str, body: bytes) -> dict[str
     raise Trouble("no answer: look with `office appeals SESSION` whether it is lodged, or try again")
 
 
-def lodge(office: Office, words: Sequence[str]) -> Lodged:
-    """Lodges what the words ask, with lines in the log. Raises `Trouble` as `asked`, and where nothing was answered."""
+def lodge(office: Office, words: Sequence[str]) -> Answered:
+    """Lodges what the words ask, with lines in the log; the answer in the form of a command's. Raises `Trouble` as
+    `asked`, and where nothing was answered."""
     values = asked(words)
     beside.refuse_stranger(office.path)
     code, ref = candidate(office, words[0])
@@ -87,6 +83,5 @@ def lodge(office: Office, words: Sequence[str]) -> Lodged:
         last = f" last day {answer['day']}" if "day" in answer else ""
         outcome.status = int("error" in answer)
         outcome.answer = f"refused {answer['error']}{last}" if outcome.status else f"{ref} {answer['state']}"
-    if outcome.status:
-        return Lodged(1, outcome.answer, refusals.explained(office, ["lodge"], outcome.answer))
-    return Lodged(0, f"{words[0]} {outcome.answer}", [])
+    ran = Ran(1, "", f"{outcome.answer}\n") if outcome.status else Ran(0, f"{words[0]} {outcome.answer}\n", "")
+    return Answered(Step(("lodge", *words)), ran)

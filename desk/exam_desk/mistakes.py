@@ -362,11 +362,8 @@ def placed(fields: tuple[bytes, ...], places: Places, width: int) -> tuple[bytes
 
 def fault_of(record: files.Record, wanted: int) -> str:
     """What is wrong with a row that has not as many fields as are wanted, or nothing in them; else nothing."""
-    count = len(record.fields)
+    count, empty = len(record.fields), "" if any(record.fields) else EMPTY_ROW
+    if count == wanted:
+        return empty
     cure = "put a value with a comma in double quotes" if count > wanted else "values are missing"
-    if not any(record.fields):
-        cure = EMPTY_ROW
-    if count != wanted:
-        why = cure if record.closed else "a quote is not closed"
-        return f"{count} in place of {wanted} fields; {why}"
-    return "" if any(record.fields) else EMPTY_ROW
+    return f"{count} in place of {wanted} fields; {(empty or cure) if record.closed else 'a quote is not closed'}"

@@ -179,10 +179,10 @@ class Plan:
     def grant(self, who: Office) -> list[Step]:
         """Lodges the appeal, and keeps its reference; gives the step that would grant it, none where it is refused."""
         lodged = lodging.lodge(who, self.lodge)
-        if lodged.status:
-            self.refuse(lodged.line, lodged.explained)
+        if lodged.ran.status:
+            self.refuse(lodged.first_line(), lodged.explained(who))
             return []
-        self.lodged = lodged.line.split()[1]
+        self.lodged = lodged.first_line().split()[1]
         return [Step(("decide", self.lodge[0], self.lodged, "granted", ""))]
 
 

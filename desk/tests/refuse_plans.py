@@ -72,8 +72,9 @@ def refused(browser, what, number):
     nothing."""
     page, values = FORMS[what]
     line = f"refused {number}"
-    lodged = lodging.Lodged(1, line, refusals.explained(browser.app.extensions["desk"].office, ["lodge"], line))
-    with (mock.patch.object(changing.running, "run_over", return_value=Ran(1, "", line + "\n")),
+    ran = Ran(1, "", line + "\n")
+    lodged = changing.Answered(changing.Step(("lodge",)), ran)
+    with (mock.patch.object(changing.running, "run_over", return_value=ran),
           mock.patch.object(lodging, "lodge", return_value=lodged)):
         answer = browser.post(f"/propose/{what}", values)
     at_field = answer.status_code == 422
@@ -95,8 +96,9 @@ def refused_late(browser, what):
     page = answer.headers["Location"]
     while "refresh" in shown(browser.client.get(page)):
         pass
-    lodged = lodging.Lodged(1, "refused 22", [refusals.SENTENCES[22]])
-    with (mock.patch.object(changing, "run_patiently", return_value=Ran(1, "", "refused 22\n")),
+    ran = Ran(1, "", "refused 22\n")
+    lodged = changing.Answered(changing.Step(("lodge",)), ran)
+    with (mock.patch.object(changing, "run_patiently", return_value=ran),
           mock.patch.object(lodging, "lodge", return_value=lodged)):
         browser.post(f"{page}/do", {"tick": "1"})
     text = shown(browser.client.get(page))
