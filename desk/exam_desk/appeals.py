@@ -1,13 +1,11 @@
 """The rows of appeals in words: their kinds and states, what they ask, which are open, what `back` takes away; and the
 last days to lodge and to decide one. The program refuses by itself what comes later: 13 and 17."""
-import contextlib
 import datetime
 import sqlite3
 from collections.abc import Collection
 from typing import NamedTuple
 
-from exam_desk import facts, private
-from exam_desk.office import Office
+from exam_desk import facts
 from exam_desk.snapshot import Rows
 from exam_desk.words import feature_text
 
@@ -15,7 +13,7 @@ KINDS = {1: "hall", 2: "clash", 3: "arrangement"}
 STATES = {1: "open", 2: "granted", 3: "refused", 4: "retracted", 5: "superseded"}
 DAYS_TO_LODGE = {"hall": 2, "clash": 5, "arrangement": 10}  # before the day of the session, by kind
 DAYS_TO_DECIDE = 1
-IS_STANDING = "(number, ref) IN (SELECT number, ref FROM standing)"  # of an appeal
+IS_STANDING = "(number, ref) IN standing"  # of an appeal
 OPEN = ("SELECT appeal.*, day, name FROM appeal JOIN session ON session.code = session "
         "JOIN candidate ON candidate.number = appeal.number WHERE state = 1 "
         "ORDER BY day, session.start, session, appeal.number, ref")
@@ -61,20 +59,13 @@ def open_lines(rows: Rows, today: str, sessions: Collection[str] = ()) -> list[s
     return lines
 
 
-def read(office: Office, path: str) -> dict[tuple[str, str], Lodged] | None:
-    """The appeals of an office of any version, by number and reference; None where they cannot be read."""
-    try:
-        with (private.private_copy(path, office.path) as copy,
-              contextlib.closing(sqlite3.connect(copy)) as file):
-            file.execute("PRAGMA locking_mode = EXCLUSIVE")  # no third file
-            file.text_factory = lambda text: text.decode("utf-8", "replace")
-            marked = file.execute("SELECT name FROM sqlite_schema WHERE name = 'standing'").fetchone()
-            rows = file.execute(f"SELECT number, ref, state, answer, {IS_STANDING if marked else 0}, "
-                                "session, kind, target, needs, extra, reason, lodged FROM appeal")
-            return {(str(number).zfill(7), str(ref)): Lodged(tuple(asked), fate(state, standing), answer)
-                    for number, ref, state, answer, standing, *asked in rows}
-    except (OSError, sqlite3.Error):
-        return None
+def read(both: sqlite3.Connection, moment: str) -> dict[tuple[str, str], Lodged]:
+    """The appeals of an office of any version by number and reference; it is attached under the name of its moment."""
+    marked = both.execute(f"SELECT name FROM {moment}.sqlite_schema WHERE name = 'standing'").fetchone()
+    rows = both.execute(f"SELECT number, ref, state, answer, {f'(number, ref) IN {moment}.standing' if marked else 0}, "
+                        f"session, kind, target, needs, extra, reason, lodged FROM {moment}.appeal")
+    return {(str(number).zfill(7), str(ref)): Lodged(tuple(asked), fate(state, standing), answer)
+            for number, ref, state, answer, standing, *asked in rows}
 
 
 def lost(now: dict[tuple[str, str], Lodged], then: dict[tuple[str, str], Lodged]) -> list[str]:

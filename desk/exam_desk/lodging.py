@@ -65,7 +65,7 @@ def post(server: asking.Server, number: str, code: str, body: bytes) -> dict[str
         with contextlib.suppress(OSError):
             answer = asking.answer(server, head.encode() + body, SECONDS)
             if asking.status_of(answer) not in (0, 502, 503, 504):
-                said: dict[str, object] = json.loads(asking.body_of(answer))
+                said: dict[str, object] = json.loads(answer.partition(asking.HEAD_END)[2])
                 return said
     raise Trouble("no answer: look with `office appeals SESSION` whether it is lodged, or try again")
 
