@@ -12,7 +12,7 @@ from flask import Blueprint, abort, g, render_template, request
 from markupsafe import Markup, escape
 from werkzeug.wrappers import Response
 
-from exam_desk import backups, changing, copies, keeping, logbook, losses, notebook, on_paper, turns
+from exam_desk import backups, changing, copies, keeping, logbook, notebook, on_paper, turns
 from exam_desk.trouble import Stale, Trouble
 from exam_web.desk import View, desk, office, once, sums, view
 from exam_web.forms import Wrong, archive, at_field, lead, tell_papers, whole
@@ -73,7 +73,7 @@ def copy(key: str) -> str:
     return render_template("copy.html", key=key, when=when, what=what, is_brought=copies.is_brought(path),
                            e=compared(now, path) if now else None,
                            held=[] if now else [*sums(view_of(path)).values()],
-                           most=MOST_ROWS, lost=losses.found(desk().office, path), doubts=losses.DOUBTS,
+                           most=MOST_ROWS, lost=copies.losses(desk().office, path), doubts=copies.DOUBTS,
                            log=[line for line in log_since(when) if line[3] not in (logbook.BEGINS, logbook.STEP)])
 
 

@@ -18,7 +18,7 @@ from jinja2 import nodes
 
 DESK = pathlib.Path(__file__).resolve().parent.parent
 sys.path.insert(0, str(DESK))
-from exam_desk import appeals, backups, keeping, losses, mistakes, reasons, refusals, second_sitting, words  # noqa: E402
+from exam_desk import appeals, backups, copies, keeping, mistakes, reasons, refusals, second_sitting, words  # noqa: E402
 from exam_desk.workbook import cells, opening  # noqa: E402
 from exam_web import application, desk, forms, proposals, session, wording  # noqa: E402
 
@@ -180,7 +180,7 @@ def main():
     found.update(re.findall(r'\btext\("((?:[^"\\]|\\.)*)"', (DESK / "exam_web/wording.py").read_text("utf-8")))
     for table in TABLES.values():
         found.update(table)
-    found.update(SAID, OPENED, FORMED, OWN, second_sitting.TEXTS, [losses.OTHERS, losses.NAMED, losses.UNKNOWN])
+    found.update(SAID, OPENED, FORMED, OWN, second_sitting.TEXTS, [copies.OTHERS, copies.NAMED, copies.UNKNOWN])
     print(json.dumps({"found": sorted(found), "lost": lost}))
 
 
