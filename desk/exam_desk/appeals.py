@@ -3,7 +3,6 @@ last days to lodge and to decide one. The program refuses by itself what comes l
 import datetime
 import sqlite3
 from collections.abc import Collection
-from typing import NamedTuple
 
 from exam_desk import facts
 from exam_desk.snapshot import Rows
@@ -17,13 +16,9 @@ IS_STANDING = "(number, ref) IN standing"  # of an appeal
 OPEN = ("SELECT appeal.*, day, name FROM appeal JOIN session ON session.code = session "
         "JOIN candidate ON candidate.number = appeal.number WHERE state = 1 "
         "ORDER BY day, session.start, session, appeal.number, ref")
-
-
-class Lodged(NamedTuple):
-    """An appeal as `back` compares it."""
-    asked: tuple[object, ...]  # the session, what the candidate lodged, and when
-    fate: str
-    answer: str | None  # of the office
+LOST = ("SELECT number, ref, session, old.state, old.stands, new.state, new.stands, old.answer IS new.answer "
+        "FROM {} AS old LEFT JOIN {} AS new USING (number, ref, session, kind, target, needs, extra, reason, lodged) "
+        "ORDER BY number, ref")
 
 
 def fate(state: int, is_standing: bool) -> str:
@@ -59,22 +54,18 @@ def open_lines(rows: Rows, today: str, sessions: Collection[str] = ()) -> list[s
     return lines
 
 
-def read(both: sqlite3.Connection, moment: str) -> dict[tuple[str, str], Lodged]:
-    """The appeals of an office of any version by number and reference; it is attached under the name of its moment."""
-    marked = both.execute(f"SELECT name FROM {moment}.sqlite_schema WHERE name = 'standing'").fetchone()
-    rows = both.execute(f"SELECT number, ref, state, answer, {f'(number, ref) IN {moment}.standing' if marked else 0}, "
-                        f"session, kind, target, needs, extra, reason, lodged FROM {moment}.appeal")
-    return {(str(number).zfill(7), str(ref)): Lodged(tuple(asked), fate(state, standing), answer)
-            for number, ref, state, answer, standing, *asked in rows}
-
-
-def lost(now: dict[tuple[str, str], Lodged], then: dict[tuple[str, str], Lodged]) -> list[str]:
-    """A line for each appeal, decision and retraction of one state of the office that another has not."""
+def lost(both: sqlite3.Connection) -> list[str]:
+    """A line for each appeal, decision and retraction of the office `now` that the `other` has not; both are attached,
+    of any version. An appeal is gone, too, where the other has one that asks something else under its reference."""
+    fates = []
+    for moment in ("now", "other"):
+        marked = both.execute(f"SELECT 1 FROM {moment}.sqlite_schema WHERE name = 'standing'").fetchone()
+        stands = f"(number, ref) IN {moment}.standing" if marked else 0
+        fates.append(f"(SELECT *, {stands} AS stands FROM {moment}.appeal)")
     lines = []
-    for (number, ref), appeal in sorted(now.items()):
-        was = then.get((number, ref))
-        becomes = was.fate if was and was.asked == appeal.asked else "gone"
-        if was != appeal:
-            another = ", with another answer" if becomes == appeal.fate else ""
-            lines.append(f"appeal {number} {ref} for {appeal.asked[0]}: {appeal.fate} -> {becomes}{another}")
+    for number, ref, session, state, stands, later, will_stand, is_same in both.execute(LOST.format(*fates)):
+        was, becomes = fate(state, stands), "gone" if later is None else fate(later, will_stand)
+        if was != becomes or not is_same:
+            another = ", with another answer" if was == becomes else ""
+            lines.append(f"appeal {str(number).zfill(7)} {ref} for {session}: {was} -> {becomes}{another}")
     return lines

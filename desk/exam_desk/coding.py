@@ -104,16 +104,13 @@ def add_codes(office: Office, reading: Reading) -> None:
 
 
 def steps_of(reading: Reading) -> list[Step]:
-    """The imports of what was read, in order. `Trouble` at a mistake or an empty code, or where there is nothing."""
+    """The imports of what was read, in order. `Trouble` at a mistake, such as that there is nothing, or an empty code."""
     from exam_desk.workbook.reading import file_parts  # here, since `office codes` needs no workbook
     if count := reading.report.count("mistake"):
         raise Trouble(f"{lists.count(count, 'mistake')}: nothing is changed")
     if empty := sum(not record.fields[2] for record in reading.records.get("candidates", [])):
         raise Trouble(f"{lists.count(empty, 'candidate')} without an access code: nothing is changed; give --codes too "
                       "to make them")
-    steps = [Step(("import", kind, name), text)
-             for kind in files.HEADERS if (rows := [record.fields for record in reading.records.get(kind, [])])
-             for name, text, _ in file_parts(kind, rows)]  # several where they are too many for one
-    if not steps:
-        raise Trouble("there is no row to import")
-    return steps
+    return [Step(("import", kind, name), text)
+            for kind in files.HEADERS if (rows := [record.fields for record in reading.records.get(kind, [])])
+            for name, text, _ in file_parts(kind, rows)]  # several where they are too many for one

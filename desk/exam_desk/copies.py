@@ -34,7 +34,6 @@ OTHERS = ("{gone} of {candidates} candidates and {over} of {sessions} sessions o
           "school's?")
 NAMED = "the name of its school is {other}, that of the office is {school}: is it another school's?"
 DOUBTS = [OTHERS, NAMED]
-MOMENTS = ("now", "other")  # the names of the office as it is, and of the copy
 # How many the first has, how many the second, and how many both. Candidates are alike in number, and in name or code.
 COUNTS = ("SELECT (SELECT count(*) FROM now.{0}), (SELECT count(*) FROM other.{0}), "
           "(SELECT count(*) FROM now.{0} AS old JOIN other.{0} AS new ON {1})")
@@ -255,11 +254,9 @@ def losses(office: Office, copy: str) -> list[Said]:
         return []
     try:
         with attached(office, copy) as both:
-            now, then = (appeals.read(both, moment) for moment in MOMENTS)
-            others = of_others(office, copy, both)
+            return [*of_others(office, copy, both), *(Said("{line}", {"line": line}) for line in appeals.lost(both))]
     except (OSError, sqlite3.Error):
         return [Said(UNKNOWN, {})]
-    return [*others, *(Said("{line}", {"line": line}) for line in appeals.lost(now, then))]
 
 
 def of_others(office: Office, copy: str, both: sqlite3.Connection) -> list[Said]:
@@ -283,12 +280,12 @@ def of_others(office: Office, copy: str, both: sqlite3.Connection) -> list[Said]
 
 @contextlib.contextmanager
 def attached(office: Office, copy: str) -> Iterator[sqlite3.Connection]:
-    """A connection to private copies of the office and of a copy, each under the name of its moment."""
+    """A connection to a private copy of the office, which is `now` in it, and to one of a copy, the `other`."""
     with contextlib.ExitStack() as stack:
         paths = [stack.enter_context(private.private_copy(path, office.path))
                  for path in (office.path, file_in(office, copy))]
         both = stack.enter_context(contextlib.closing(sqlite3.connect(":memory:")))
         both.text_factory = lambda text: text.decode("utf-8", "replace")
-        for moment, path in zip(MOMENTS, paths):
+        for moment, path in zip(("now", "other"), paths):
             both.execute(f"ATTACH ? AS {moment}", [path])
         yield both
