@@ -59,8 +59,7 @@ def check_folder(office: Office, folder: str, tell: Tell, progress: Progress) ->
     tried = []
     if texts and not counts["mistakes"]:
         if codes:
-            people = coding.read(texts["candidates"], "candidates.csv")
-            coded = coding.filled(people, coding.in_office(office), set())
+            coded = coding.coded(office, os.path.join(folder, "candidates.csv"), [])
             texts["candidates"] = files.file_of("candidates", coded.rows)
         tried = would_do(office, texts, tell, progress)
     counts["notes"] = sum(notes.count for _, notes in found.values()) + len(tried)
