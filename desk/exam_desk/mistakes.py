@@ -365,4 +365,5 @@ def fault_of(record: files.Record, wanted: int) -> str:
     if count == wanted:
         return empty
     cure = "put a value with a comma in double quotes" if count > wanted else "values are missing"
-    return f"{count} in place of {wanted} fields; {(empty or cure) if record.closed else 'a quote is not closed'}"
+    why = (empty or cure) if record.closed else "a quote is not closed"
+    return f"{count} in place of {wanted} fields; {why}"
