@@ -60,8 +60,8 @@ def lost(both: sqlite3.Connection) -> list[str]:
     fates = []
     for moment in ("now", "other"):
         marked = both.execute(f"SELECT 1 FROM {moment}.sqlite_schema WHERE name = 'standing'").fetchone()
-        stands = f"(number, ref) IN {moment}.standing" if marked else 0
-        fates.append(f"(SELECT *, {stands} AS stands FROM {moment}.appeal)")
+        is_one = f"(number, ref) IN {moment}.standing" if marked else "0"
+        fates.append(f"(SELECT *, {is_one} AS stands FROM {moment}.appeal)")
     lines = []
     for number, ref, session, state, stands, later, will_stand, is_same in both.execute(LOST.format(*fates)):
         was, becomes = fate(state, stands), "gone" if later is None else fate(later, will_stand)
