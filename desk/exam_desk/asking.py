@@ -194,8 +194,7 @@ def listener(port: int) -> str:
     wanted = f"{SHOWN_HOST}:{port:04X}".encode()
     with open("/proc/net/tcp", "rb") as lines:
         next(lines)
-        for line in lines:
-            _, local, _, state, *_, inode = line.split()[:10]
+        for _, local, _, state, *_, inode in (line.split()[:10] for line in lines):
             if state != LISTENS:
                 break
             if local == wanted:

@@ -126,10 +126,10 @@ def folders(office: Office, place: str, form: re.Pattern[str]) -> list[str]:
 
 
 def parts(copy: str) -> re.Match[str]:
-    """The name of a copy: its running number, day, time and command."""
-    found = NAME.fullmatch(os.path.basename(copy))
-    assert found  # nothing with another name is listed
-    return found
+    """The name of a copy: its running number, day, time and command. Raises `Trouble` where it is no copy's name."""
+    if found := NAME.fullmatch(os.path.basename(copy)):
+        return found
+    raise Trouble("is no copy", copy)
 
 
 def number_of(copy: str) -> int:
