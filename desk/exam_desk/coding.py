@@ -104,7 +104,7 @@ def add_codes(office: Office, reading: Reading) -> None:
 
 
 def steps_of(reading: Reading) -> list[Step]:
-    """The imports of what was read, in order. `Trouble` at a mistake, such as that there is nothing, or an empty code."""
+    """The imports of what was read, in order. `Trouble` at a mistake, as where nothing was read, or an empty code."""
     from exam_desk.workbook.reading import file_parts  # here, since `office codes` needs no workbook
     if count := reading.report.count("mistake"):
         raise Trouble(f"{lists.count(count, 'mistake')}: nothing is changed")
