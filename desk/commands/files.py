@@ -19,16 +19,15 @@ if TYPE_CHECKING:
     from exam_desk.workbook.reading import Reading
 
 
-def add_reading(parser: ArgumentParser) -> None:
-    """The options of a command that reads values as a spreadsheet writes them."""
+def add_reading(parser: ArgumentParser, is_folder: bool = False) -> None:
+    """The options of a command that reads values as a spreadsheet writes them: of a folder these alone."""
+    from exam_desk.files import HEADERS
     parser.add_argument("--dates", choices=["day-first", "month-first"], default="", help="what 01/06/2027 means")
     parser.add_argument("--encoding", help="of CSV files that are not UTF-8, such as cp1252")
     parser.add_argument("--all", action="store_true", help="print a line for each cell, also where many say the same")
-
-
-def add_choices(parser: ArgumentParser) -> None:
-    """The options of a command that reads a workbook."""
-    from exam_desk.files import HEADERS
+    if is_folder:
+        parser.set_defaults(columns=None, sheet=None, leave=[], together=[], hidden="")
+        return
     parser.add_argument("--columns", metavar="FILE", help="a file .toml which says what the headers and words mean")
     parser.add_argument("--sheet", action="append", metavar="NAME",
                         help="read this sheet, and no other that is not named")
@@ -55,8 +54,7 @@ def print_lines(reading: Reading, everything: bool) -> None:
     """Prints what was changed, and what is wrong."""
     from exam_desk.workbook.tables import together
     command.progress("")
-    for line in reading.report.lines if everything else together(reading.report.lines):
-        print(plain(line.whole()))
+    command.say_lines(line.whole() for line in (reading.report.lines if everything else together(reading.report.lines)))
 
 
 def made(source: str, new: str, given: Namespace, is_folder: bool, lines_name: str) -> int:
@@ -188,8 +186,7 @@ candidates!A17. What cannot be decided is a MISTAKE with a cure; where there is 
 is 1. The files of FOLDER stay. The new folder is for its owner alone, and has all these lines, too, in mend.txt.
 """)
 def mend(parser: ArgumentParser) -> int:
-    add_reading(parser)
-    parser.set_defaults(columns=None, sheet=None, leave=[], together=[], hidden="")
+    add_reading(parser, is_folder=True)
     given = command.given(parser, "folder", "new?")
     return made(given.folder, given.new or os.path.abspath(given.folder) + "-mended", given, True, "mend.txt")
 
@@ -208,7 +205,6 @@ last save.
 """)
 def read(parser: ArgumentParser) -> int:
     add_reading(parser)
-    add_choices(parser)
     given = command.given(parser, "workbook", "folder?")
     new = given.folder or os.path.splitext(os.path.basename(given.workbook))[0]
     return made(given.workbook, new, given, False, "read.txt")
@@ -230,7 +226,6 @@ def take(parser: ArgumentParser) -> Plan:
     from exam_desk import coding
     add_reading(parser)
     parser.add_argument("source", metavar="WORKBOOK|FOLDER")
-    add_choices(parser)
     given = command.given(parser, "--yes: do not ask", "--codes: make access codes for candidates who have none")
     reading = read_source(command.existing_office(), given.source, given, os.path.isdir(given.source))
     if given.codes:

@@ -9,7 +9,7 @@ from collections.abc import Callable, Iterator, Sequence
 from dataclasses import dataclass, field, replace
 
 import command
-from exam_desk import (beside, changing, copies, effects, files, listed, lists, lodging, logbook, losses, notebook,
+from exam_desk import (beside, changing, copies, effects, files, listed, lists, lodging, logbook, notebook,
                        private, refusals, running, snapshot, turns, typed)
 from exam_desk.changing import Answered, Rehearsal, Step
 from exam_desk.office import Office
@@ -159,7 +159,7 @@ class Back(Change):
 
     def said(self, rehearsal: Rehearsal) -> int:
         office = rehearsal.office
-        self.tell("would be", losses.found(office, self.copy), notebook.others_than_in(office, self.copy))
+        self.tell("would be", copies.losses(office, self.copy), notebook.others_than_in(office, self.copy))
         return 0
 
     def tell(self, verb: str, taken: list[Said], others: list[str]) -> None:
@@ -173,7 +173,7 @@ class Back(Change):
         office = command.office()
         when, what = copies.when_and_what(self.copy)
         others = notebook.others_than_in(office, self.copy)
-        seen, taken, why = changing.state_of(office), losses.found(office, self.copy), ""
+        seen, taken, why = changing.state_of(office), copies.losses(office, self.copy), ""
         while True:
             if not self.is_agreed:
                 command.say_lines(f"taken away: {line}" for line in taken)

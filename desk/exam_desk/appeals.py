@@ -1,13 +1,10 @@
 """The rows of appeals in words: their kinds and states, what they ask, which are open, what `back` takes away; and the
 last days to lodge and to decide one. The program refuses by itself what comes later: 13 and 17."""
-import contextlib
 import datetime
 import sqlite3
 from collections.abc import Collection
-from typing import NamedTuple
 
-from exam_desk import facts, private
-from exam_desk.office import Office
+from exam_desk import facts
 from exam_desk.snapshot import Rows
 from exam_desk.words import Said, feature_text
 
@@ -18,17 +15,13 @@ LOST = "appeal {number} {ref} for {session}: {was} -> {becomes}"
 OTHERWISE = LOST + ", with another answer"
 DAYS_TO_LODGE = {"hall": 2, "clash": 5, "arrangement": 10}  # before the day of the session, by kind
 DAYS_TO_DECIDE = 1
-IS_STANDING = "(number, ref) IN (SELECT number, ref FROM standing)"  # of an appeal
+IS_STANDING = "(number, ref) IN standing"  # of an appeal
 OPEN = ("SELECT appeal.*, day, name FROM appeal JOIN session ON session.code = session "
         "JOIN candidate ON candidate.number = appeal.number WHERE state = 1 "
         "ORDER BY day, session.start, session, appeal.number, ref")
-
-
-class Lodged(NamedTuple):
-    """An appeal as `back` compares it."""
-    asked: tuple[object, ...]  # the session, what the candidate lodged, and when
-    fate: Said
-    answer: str | None  # of the office
+COMPARED = ("SELECT number, ref, session, old.state, old.stands, new.state, new.stands, old.answer IS new.answer "
+            "FROM {} AS old LEFT JOIN {} AS new USING (number, ref, session, kind, target, needs, extra, reason, lodged) "
+            "ORDER BY number, ref")
 
 
 def fate(state: int, is_standing: bool) -> Said:
@@ -65,29 +58,18 @@ def open_lines(rows: Rows, today: str, sessions: Collection[str] = ()) -> list[s
     return lines
 
 
-def read(office: Office, path: str) -> dict[tuple[str, str], Lodged] | None:
-    """The appeals of an office of any version, by number and reference; None where they cannot be read."""
-    try:
-        with (private.private_copy(path, office.path) as copy,
-              contextlib.closing(sqlite3.connect(copy)) as file):
-            file.execute("PRAGMA locking_mode = EXCLUSIVE")  # no third file
-            file.text_factory = lambda text: text.decode("utf-8", "replace")
-            marked = file.execute("SELECT name FROM sqlite_schema WHERE name = 'standing'").fetchone()
-            rows = file.execute(f"SELECT number, ref, state, answer, {IS_STANDING if marked else 0}, "
-                                "session, kind, target, needs, extra, reason, lodged FROM appeal")
-            return {(str(number).zfill(7), str(ref)): Lodged(tuple(asked), fate(state, standing), answer)
-                    for number, ref, state, answer, standing, *asked in rows}
-    except (OSError, sqlite3.Error):
-        return None
-
-
-def lost(now: dict[tuple[str, str], Lodged], then: dict[tuple[str, str], Lodged]) -> list[Said]:
-    """What is said of each appeal, decision and retraction of one state of the office that another has not."""
+def lost(both: sqlite3.Connection) -> list[Said]:
+    """A line for each appeal, decision and retraction of the office `now` that the `other` has not; both are attached,
+    of any version. An appeal is gone, too, where the other has one that asks something else under its reference."""
+    fates = []
+    for moment in ("now", "other"):
+        marked = both.execute(f"SELECT 1 FROM {moment}.sqlite_schema WHERE name = 'standing'").fetchone()
+        is_one = f"(number, ref) IN {moment}.standing" if marked else "0"
+        fates.append(f"(SELECT *, {is_one} AS stands FROM {moment}.appeal)")
     lines = []
-    for (number, ref), appeal in sorted(now.items()):
-        was = then.get((number, ref))
-        becomes = was.fate if was and was.asked == appeal.asked else Said(GONE, {})
-        if was != appeal:
-            lines.append(Said(OTHERWISE if becomes == appeal.fate else LOST, {
-                "number": number, "ref": ref, "session": appeal.asked[0], "was": appeal.fate, "becomes": becomes}))
+    for number, ref, session, state, stands, later, will_stand, is_same in both.execute(COMPARED.format(*fates)):
+        was, becomes = fate(state, stands), Said(GONE, {}) if later is None else fate(later, will_stand)
+        if was != becomes or not is_same:
+            lines.append(Said(OTHERWISE if was == becomes else LOST, {
+                "number": str(number).zfill(7), "ref": ref, "session": session, "was": was, "becomes": becomes}))
     return lines

@@ -24,6 +24,7 @@ from exam_desk.trouble import Trouble
 
 HOST = "127.0.0.1"
 SHOWN_HOST = f"{int.from_bytes(socket.inet_aton(HOST), sys.byteorder):08X}"  # as /proc/net/tcp shows it
+HEAD_END = b"\r\n\r\n"
 LISTENS = b"0A"  # the state of a socket there
 PEER = "3i"  # struct ucred of unix(7): process, user, group
 AT_ONCE = 4  # connections: while `serve` answers the first, the next are made
@@ -108,8 +109,8 @@ def ask_all(server: Server, requests: Sequence[bytes], found: list[bytes], progr
             waiting.extend(sent(server, request, SECONDS)
                            for request in itertools.islice(left, AT_ONCE - len(waiting)))
             answer = received(waiting.popleft())
-            status, body = status_of(answer), body_of(answer)
-            if status == 0:
+            body = answer.partition(HEAD_END)[2]
+            if not (status := status_of(answer)):
                 raise ConnectionError("the answer is not whole")
             if status != 200:
                 raise Trouble(f"the program answered {status} {body.decode('utf-8', 'replace')[:60]}")
@@ -193,8 +194,7 @@ def listener(port: int) -> str:
     wanted = f"{SHOWN_HOST}:{port:04X}".encode()
     with open("/proc/net/tcp", "rb") as lines:
         next(lines)
-        for line in lines:
-            _, local, _, state, *_, inode = line.split()[:10]
+        for _, local, _, state, *_, inode in (line.split()[:10] for line in lines):
             if state != LISTENS:
                 break
             if local == wanted:
@@ -210,11 +210,7 @@ def free_port() -> int:
 
 def status_of(text: bytes) -> int:
     """The status of an answer; 0 where it is not whole."""
-    head, end, body = text.partition(b"\r\n\r\n")
+    head, end, body = text.partition(HEAD_END)
     status = re.match(rb"HTTP/1\.[01] (\d{3})\b", head)
     length = re.search(rb"\r\nContent-Length: (\d+)", head)
     return int(status[1]) if end and status and length and len(body) == int(length[1]) else 0
-
-
-def body_of(text: bytes) -> bytes:
-    return text.partition(b"\r\n\r\n")[2]

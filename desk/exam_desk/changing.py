@@ -21,7 +21,7 @@ from dataclasses import dataclass
 from io import FileIO
 from typing import NamedTuple
 
-from exam_desk import (beside, copies, files, lists, logbook, losses, notebook, private, refusals, running, snapshot,
+from exam_desk import (beside, copies, files, lists, logbook, notebook, private, refusals, running, snapshot,
                        titles, turns)
 from exam_desk.office import Office
 from exam_desk.trouble import Stale, Trouble
@@ -270,7 +270,7 @@ def go_back(office: Office, words: Sequence[str], copy: str, may_go: Callable[[l
             stack.enter_context(turn(office, " ".join(words), made_from))
             if not os.path.isdir(copy):
                 raise Trouble("this copy is gone by now: `office back` lists what is there; nothing is changed")
-            lines = losses.found(office, copy)
+            lines = copies.losses(office, copy)
             if not may_go(lines):
                 return Back(False, lines, None)
             outcome = stack.enter_context(logbook.logged(office, words))

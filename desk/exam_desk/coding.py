@@ -6,10 +6,10 @@ import os
 import secrets
 from typing import TYPE_CHECKING, NamedTuple
 
-from exam_desk import files, lists, mistakes, snapshot
+from exam_desk import facts, files, lists, mistakes, snapshot
 from exam_desk.changing import Step
 from exam_desk.office import Office
-from exam_desk.trouble import NoCandidate, NoOffice, Trouble
+from exam_desk.trouble import NoCandidate, Trouble
 
 if TYPE_CHECKING:
     from exam_desk.workbook.reading import Reading
@@ -83,15 +83,14 @@ def coded(office: Office, path: str | None, new: list[str]) -> Coded:
 
 def renamed(office: Office, number: str, name: str) -> Step:
     """A candidate's row with another name, the same code. `Trouble` where nobody has the number, or it is no name."""
-    known = in_office(office)
-    if not known:
-        raise NoOffice(office.path)
-    if number not in known:
+    with snapshot.rows(office) as rows:
+        codes = facts.access_codes(rows)
+    if number not in codes:
         raise NoCandidate(number)
     if not files.is_name(name.encode("utf-8", "surrogateescape")):
         raise Trouble("a name has 1 to 80 bytes and no control characters")
     return Step(("import", "candidates", f"name of {number}"),
-                files.file_of("candidates", [[number, name, known[number][2]]]))
+                files.file_of("candidates", [[number, name, codes[number]]]))
 
 
 def add_codes(office: Office, reading: Reading) -> None:
@@ -105,16 +104,13 @@ def add_codes(office: Office, reading: Reading) -> None:
 
 
 def steps_of(reading: Reading) -> list[Step]:
-    """The imports of what was read, in order. `Trouble` at a mistake or an empty code, or where there is nothing."""
+    """The imports of what was read, in order. `Trouble` at a mistake, as where nothing was read, or an empty code."""
     from exam_desk.workbook.reading import file_parts  # here, since `office codes` needs no workbook
     if count := reading.report.count("mistake"):
         raise Trouble(f"{lists.count(count, 'mistake')}: nothing is changed")
     if empty := sum(not record.fields[2] for record in reading.records.get("candidates", [])):
         raise Trouble(f"{lists.count(empty, 'candidate')} without an access code: nothing is changed; give --codes too "
                       "to make them")
-    steps = [Step(("import", kind, name), text)
-             for kind in files.HEADERS if (rows := [record.fields for record in reading.records.get(kind, [])])
-             for name, text, _ in file_parts(kind, rows)]  # several where they are too many for one
-    if not steps:
-        raise Trouble("there is no row to import")
-    return steps
+    return [Step(("import", kind, name), text)
+            for kind in files.HEADERS if (rows := [record.fields for record in reading.records.get(kind, [])])
+            for name, text, _ in file_parts(kind, rows)]  # several where they are too many for one

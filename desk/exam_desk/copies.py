@@ -1,9 +1,11 @@
-"""Copies of an office from before each change and from each day; and how one is put in the place of the office."""
+"""Copies of an office from before each change and from each day; how one is put in the place of the office; and what is
+lost by that: appeals, decisions, and the office itself where the copy is of other people."""
 from __future__ import annotations
 
 import contextlib
 import datetime
 import filecmp
+import json
 import os
 import pathlib
 import re
@@ -12,10 +14,10 @@ import sqlite3
 import textwrap
 from collections.abc import Iterator
 
-from exam_desk import beside, files, notebook, private, running
+from exam_desk import appeals, beside, files, notebook, private, running
 from exam_desk.office import Office
 from exam_desk.trouble import Trouble
-from exam_desk.words import plain
+from exam_desk.words import Said, plain
 
 MOST_COPIES = 50
 MOST_BYTES = 1 << 30
@@ -26,6 +28,17 @@ NAME = re.compile(r"(?:([0-9]+) )?([0-9]{4}-[0-9]{2}-[0-9]{2}) ([0-9.]{8,15}) (.
 DAY = re.compile("[0-9]{4}-[0-9]{2}-[0-9]{2}")
 REDOING = {"undoing": "redoing", "redoing": "undoing"}
 EMPTY_LOG = 41  # bytes of a second file that holds no change
+UNKNOWN = "nobody can say which appeals and decisions, since what the office holds now cannot be read"
+OTHERS = ("{gone} of {candidates} candidates and {over} of {sessions} sessions of the office are not in it, and "
+          "{new} of its {brought} candidates and {later} of its {held} sessions are not in the office: is it another "
+          "school's?")
+NAMED = "the name of its school is {other}, that of the office is {school}: is it another school's?"
+DOUBTS = [OTHERS, NAMED]
+# How many the first has, how many the second, and how many both. Candidates are alike in number, and in name or code.
+COUNTS = ("SELECT (SELECT count(*) FROM now.{0}), (SELECT count(*) FROM other.{0}), "
+          "(SELECT count(*) FROM now.{0} AS old JOIN other.{0} AS new ON {1})")
+CANDIDATES = COUNTS.format("candidate", "old.number = new.number AND (old.name = new.name OR old.code = new.code)")
+SESSIONS = COUNTS.format("session", "old.code = new.code AND old.day = new.day")
 
 
 def keep_copy(office: Office, command: str) -> str:
@@ -113,11 +126,10 @@ def folders(office: Office, place: str, form: re.Pattern[str]) -> list[str]:
 
 
 def parts(copy: str) -> re.Match[str]:
-    """The name of a copy: its running number, day, time and command."""
-    found = NAME.fullmatch(os.path.basename(copy))
-    if found is None:
-        raise Trouble("is no copy of an office", copy)
-    return found
+    """The name of a copy: its running number, day, time and command. Raises `Trouble` where it is no copy's name."""
+    if found := NAME.fullmatch(os.path.basename(copy)):
+        return found
+    raise Trouble("is no copy of an office", copy)
 
 
 def number_of(copy: str) -> int:
@@ -234,3 +246,46 @@ def put_back(office: Office, copy: str) -> str | None:
                 kept_if_other(office, kept)
             raise
     return kept
+
+
+def losses(office: Office, copy: str) -> list[Said]:
+    """What is said of each thing that the office has and a copy has not; nothing where there is no office."""
+    if not os.path.exists(office.path):
+        return []
+    try:
+        with attached(office, copy) as both:
+            return [*of_others(office, copy, both), *appeals.lost(both)]
+    except (OSError, sqlite3.Error):
+        return [Said(UNKNOWN, {})]
+
+
+def of_others(office: Office, copy: str, both: sqlite3.Connection) -> list[Said]:
+    """Why a copy may be another school's; nothing where it is not, or nobody can say. One from before the first import
+    has no candidate, and is this office's all the same."""
+    why: list[Said] = []
+    with contextlib.suppress(sqlite3.Error):
+        (candidates, brought, alike), (sessions, held, same) = (
+            both.execute(query).fetchone() for query in (CANDIDATES, SESSIONS))
+        if 2 * alike < (candidates if is_brought(copy) else min(candidates, brought)):
+            why.append(Said(OTHERS, {
+                "gone": candidates - alike, "candidates": candidates, "over": sessions - same, "sessions": sessions,
+                "new": brought - alike, "brought": brought, "later": held - same, "held": held}))
+    with contextlib.suppress(OSError, ValueError, RecursionError, Trouble):  # none is beside it, or one is damaged
+        with open(os.path.join(copy, notebook.PLACE, "school.json"), "rb", opener=private.no_link) as file:
+            school, other = notebook.school_name(office), plain(str(json.loads(file.read())))
+        if is_brought(copy) and school and other and plain(school) != other:
+            why.append(Said(NAMED, {"other": other, "school": plain(school)}))
+    return why
+
+
+@contextlib.contextmanager
+def attached(office: Office, copy: str) -> Iterator[sqlite3.Connection]:
+    """A connection to a private copy of the office, which is `now` in it, and to one of a copy, the `other`."""
+    with contextlib.ExitStack() as stack:
+        paths = [stack.enter_context(private.private_copy(path, office.path))
+                 for path in (office.path, file_in(office, copy))]
+        both = stack.enter_context(contextlib.closing(sqlite3.connect(":memory:")))
+        both.text_factory = lambda text: text.decode("utf-8", "replace")
+        for moment, path in zip(("now", "other"), paths):
+            both.execute(f"ATTACH ? AS {moment}", [path])
+        yield both

@@ -30,7 +30,7 @@ HEADERS = {  # in the order in which they are imported
     "entries": ["number", "paper"],
 }
 BRINGS = {"session": "sessions", "paper": "papers", "hall": "halls", "number": "candidates"}
-REFERENCES = {kind: [(place, BRINGS[name]) for place, name in enumerate(header) if BRINGS.get(name, kind) != kind]
+REFERENCES = {kind: {name: BRINGS[name] for name in header if BRINGS.get(name, kind) != kind}
               for kind, header in HEADERS.items()}  # the columns whose values other files bring, and the kind of these
 KEYS = {"openings": 2, "entries": 2}  # how many columns make the key; elsewhere the first alone
 FIRST_DAY, LAST_DAY = datetime.date(2000, 1, 11), datetime.date(2199, 12, 31)
@@ -217,8 +217,7 @@ def is_header(kind: str, record: Record | None) -> bool:
 
 def needed_columns(kind: str) -> set[str]:
     """The columns without which no row of a kind can be read: its key, and what refers to other kinds."""
-    header = HEADERS[kind]
-    return {*header[:KEYS.get(kind, 1)], *(header[column] for column, _ in REFERENCES[kind])}
+    return {*HEADERS[kind][:KEYS.get(kind, 1)], *REFERENCES[kind]}
 
 
 def key_of(kind: str, fields: tuple[bytes, ...]) -> tuple[bytes, ...]:

@@ -19,14 +19,6 @@ TRIES, SECONDS = 3, 60
 KINDS = typed.APPEALS
 
 
-def asked(words: Sequence[str]) -> dict[str, str | int]:
-    """The body that NUMBER SESSION KIND VALUE .. REASON ask for, without a reference. `Trouble` where one is wrong."""
-    if wrong := typed.wrong_of_lodging(words):
-        raise Trouble(f"{'; '.join(wrong)}; nothing is changed")
-    named = dict(zip(["session", "kind", *KINDS[words[2]], "reason"], words[1:]))
-    return {name: int(word) if name == "extra" else word for name, word in named.items()}
-
-
 def candidate(office: Office, number: str) -> tuple[str, str]:
     """The access code of a candidate, and the next free reference. Raises `Trouble` where the office has none such."""
     with contextlib.closing(snapshot.rows(office)) as connection:
@@ -65,15 +57,16 @@ def post(server: asking.Server, number: str, code: str, body: bytes) -> dict[str
         with contextlib.suppress(OSError):
             answer = asking.answer(server, head.encode() + body, SECONDS)
             if asking.status_of(answer) not in (0, 502, 503, 504):
-                said: dict[str, object] = json.loads(asking.body_of(answer))
+                said: dict[str, object] = json.loads(answer.partition(asking.HEAD_END)[2])
                 return said
     raise Trouble("no answer: look with `office appeals SESSION` whether it is lodged, or try again")
 
 
 def lodge(office: Office, words: Sequence[str]) -> Answered:
-    """Lodges what the words ask, with lines in the log; the answer in the form of a command's. Raises `Trouble` as
-    `asked`, and where nothing was answered."""
-    values = asked(words)
+    """Lodges what NUMBER SESSION KIND VALUE .. REASON ask, in which nothing is wrong (`typed.wrong_of_lodging`), with
+    lines in the log; the answer in the form of a command's. Raises `Trouble` where nothing was answered."""
+    named = dict(zip(["session", "kind", *KINDS[words[2]], "reason"], words[1:]))
+    values = {name: int(word) if name == "extra" else word for name, word in named.items()}
     beside.refuse_stranger(office.path)
     code, ref = candidate(office, words[0])
     body = json.dumps({**values, "ref": ref}, ensure_ascii=False).encode()

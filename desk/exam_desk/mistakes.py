@@ -209,8 +209,7 @@ class File:
         self.kind, self.known, self.header = kind, known, files.HEADERS[kind]
         self.wrong, self.notes = Found(most), Found(most)
         self.missing: list[str] = []  # the columns that the header lacks; their fields are empty
-        references = dict(files.REFERENCES[kind])
-        self.columns = [(name, RIGHT[name], references.get(place)) for place, name in enumerate(self.header)]
+        self.columns = [(name, RIGHT[name], files.REFERENCES[kind].get(name)) for name in self.header]
         self.first: dict[tuple[bytes, ...], files.Record] = {}  # the first record of each key
 
     def looked_through(self, rows: Iterator[files.Record] | None) -> tuple[Found, Found]:

@@ -12,7 +12,7 @@ from flask import Blueprint, abort, g, render_template, request, url_for
 from markupsafe import Markup, escape
 from werkzeug.wrappers import Response
 
-from exam_desk import backups, changing, copies, facts, keeping, logbook, losses, notebook, on_paper, turns
+from exam_desk import backups, changing, copies, facts, keeping, logbook, notebook, on_paper, turns
 from exam_desk.trouble import Stale, Trouble
 from exam_desk.words import Said
 from exam_web.desk import View, desk, office, once, sums, view
@@ -70,12 +70,12 @@ def copy(key: str) -> str:
     path = copy_of(key)
     when, what = copies.when_and_what(path)
     since = g.visit.backup.when if copies.is_brought(path) else when
-    lost = losses.found(desk().office, path)
+    lost = copies.losses(desk().office, path)
     now: View | None = None
     with contextlib.suppress(Trouble):  # the office is not there, or cannot be read
         now = view()
     return render_template("copy.html", key=key, when=when, what=what, is_brought=copies.is_brought(path), since=since,
-                           e=compared(now, path) if now else None, most=MOST_ROWS, doubts=losses.DOUBTS, lost=lost,
+                           e=compared(now, path) if now else None, most=MOST_ROWS, doubts=copies.DOUBTS, lost=lost,
                            held=[] if now else [*sums(view_of(path)).values()], people=people(lost),
                            log=[line for line in log_since(since) if since and
                                 line[3] not in (logbook.BEGINS, logbook.STEP)])
@@ -128,7 +128,7 @@ def back(key: str) -> Response:
             text("The office is as it was on {when}.", when=when)]
     return lead("office.page", Markup(" ").join(
         [*done, *([text("The office from before is the newest copy.")] if kept else []),
-         *(Markup("<br>{}").format(said(line, names)) for line in lost if line.text not in losses.DOUBTS)]))
+         *(Markup("<br>{}").format(said(line, names)) for line in lost if line.text not in copies.DOUBTS)]))
 
 
 @pages.post("/office/bring")

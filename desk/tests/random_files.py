@@ -53,8 +53,8 @@ def first_refusal(kind: str, text: bytes, known: mistakes.Known) -> str | None:
         if seen.setdefault(files.key_of(kind, record.fields), record.fields) != record.fields:
             return f"refused 3 record {place}"
     for record in found:
-        for column, table in files.REFERENCES.get(kind, []):
-            if record.fields[column] not in known.keys[table]:
+        for column, table in files.REFERENCES[kind].items():
+            if record.fields[files.HEADERS[kind].index(column)] not in known.keys[table]:
                 return f"refused {UNKNOWN[table]}"
     known.take(kind, [record.fields for record in found])
     return "refused 20" if known.passed_limit() else None

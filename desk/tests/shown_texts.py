@@ -18,7 +18,7 @@ from jinja2 import nodes
 
 DESK = pathlib.Path(__file__).resolve().parent.parent
 sys.path.insert(0, str(DESK))
-from exam_desk import (appeals, backups, files, keeping, losses, mistakes, reasons, refusals,  # noqa: E402
+from exam_desk import (appeals, backups, copies, files, keeping, mistakes, reasons, refusals,  # noqa: E402
                        second_sitting, words)
 from exam_desk.sheets import slips  # noqa: E402
 from exam_desk.workbook import cells, opening  # noqa: E402
@@ -36,7 +36,7 @@ CURES = [cure.removesuffix(forms.SHEET_HINT) for cure in mistakes.CURES.values()
 OPENED = [cells.PASSWORD, opening.NO_UTF_8, opening.NO_WORKBOOK, opening.OLD_FORM,  # why a file is not read
           backups.NO_OFFICE, backups.SEVERAL, backups.BROKEN, backups.TOO_LARGE]
 OF_COMMANDS = re.compile("header|column|first line|UTF-16|split it|^these are|file is empty|access code;|SELECT|NOTE|"
-                         "office (take|withdraw)|looked for|file fault|refused|chmod|--codes")  # no page shows these
+                         "office (take|withdraw)|--codes|looked for|file fault|refused|chmod")  # no page shows these
 
 
 def sentences(module):
@@ -188,7 +188,7 @@ def main():
     found.update(re.findall(r'\btext\("((?:[^"\\]|\\.)*)"', (DESK / "exam_web/wording.py").read_text("utf-8")))
     for table in TABLES.values():
         found.update(table)
-    found.update(SAID, OPENED, FORMED, OWN, second_sitting.TEXTS, [losses.OTHERS, losses.NAMED, losses.UNKNOWN],
+    found.update(SAID, OPENED, FORMED, OWN, second_sitting.TEXTS, [copies.OTHERS, copies.NAMED, copies.UNKNOWN],
                  [appeals.LOST, appeals.OTHERWISE, appeals.STANDING, appeals.GONE])
     print(json.dumps({"found": sorted(found), "lost": lost}))
 

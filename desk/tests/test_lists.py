@@ -354,14 +354,26 @@ class Lists(sample.SampleSchool):
 
 class Lost(unittest.TestCase):
     def test_what_becomes_of_an_appeal(self):
-        lodged, who = appeals.Lodged(("MON-AM", 1, "PC1"), "refused", "no"), ("0001051", "HA1")
-        for then, becomes in ((None, "gone"), (lodged._replace(asked=("TUE-AM", 1, "PC1")), "gone"),
-                              (lodged._replace(fate="open", answer=None), "open"),
-                              (lodged._replace(answer="yes"), "refused, with another answer")):
-            self.assertEqual([*map(str, appeals.lost({who: lodged}, {who: then} if then else {}))],
-                             [f"appeal 0001051 HA1 for MON-AM: refused -> {becomes}"])
-        self.assertEqual(appeals.lost({who: lodged}, {who: lodged}), [])
-        self.assertEqual(appeals.lost({}, {who: lodged}), [])
+        lodged = ("MON-AM", 3, "no")
+        for then, becomes in (([], "gone"), ([("TUE-AM", 3, "no")], "gone"), ([("MON-AM", 1, None)], "open"),
+                              ([("MON-AM", 2, "no")], "granted, standing"),
+                              ([("MON-AM", 3, "yes")], "refused, with another answer")):
+            self.assertEqual(self.lost([lodged], then), [f"appeal 0001051 HA1 for MON-AM: refused -> {becomes}"])
+        self.assertEqual(self.lost([lodged], [lodged]), [])
+        self.assertEqual(self.lost([], [lodged]), [])
+
+    def lost(self, *offices):
+        """Of the session, the state and the answer of one appeal now and in another office, which can mark a grant as
+        standing: the office now is of an earlier version."""
+        with contextlib.closing(sqlite3.connect(":memory:")) as both:
+            for moment, rows in zip(("now", "other"), offices):
+                both.execute(f"ATTACH ':memory:' AS {moment}")
+                both.execute(f"CREATE TABLE {moment}.appeal (number, ref, session, state, answer, kind, target, needs, "
+                             "extra, reason, lodged)")
+                both.executemany(f"INSERT INTO {moment}.appeal VALUES (1051, 'HA1', ?, ?, ?, 1, 'PC1', 0, 0, '', 'x')", rows)
+            both.execute("CREATE TABLE other.standing (number, ref)")
+            both.execute("INSERT INTO other.standing SELECT number, ref FROM other.appeal WHERE state = 2")
+            return [*map(str, appeals.lost(both))]
 
 
 class NoOffice(sample.SampleSchool):

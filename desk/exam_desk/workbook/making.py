@@ -57,7 +57,7 @@ def fill(sheet: Any, kind: str, rows: Sequence[Sequence[str]], **looks: Any) -> 
         sheet.column_dimensions[letter].number_format = TEXT
         comment = Comment(f"{MEANS[name]}: {mistakes.CURES[name]}", "office", width=320, height=110)
         put(sheet, 1, place + 1, name, comment=comment, **HEAD)
-        if rule := list_of(kind, place, name):
+        if rule := list_of(kind, name):
             rule.add(f"{letter}2:{letter}{LAST_ROW.get(kind, 20_001)}")
             sheet.add_data_validation(rule)
     for number, row in enumerate(rows, 2):
@@ -65,9 +65,9 @@ def fill(sheet: Any, kind: str, rows: Sequence[Sequence[str]], **looks: Any) -> 
             put(sheet, number, place, text, **looks)
 
 
-def list_of(kind: str, place: int, name: str) -> Any:
+def list_of(kind: str, name: str) -> Any:
     """What a column may be chosen from; None where it is typed."""
-    source = dict(files.REFERENCES.get(kind, [])).get(place)
+    source = files.REFERENCES[kind].get(name)
     takes_features = mistakes.CURES[name] == mistakes.FEATURES_CURE
     if source:
         offered = f"{source.capitalize()}!$A$2:$A${mistakes.LIMITS[source] + 1}"
