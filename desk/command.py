@@ -13,8 +13,7 @@ import sys
 from typing import TYPE_CHECKING, NamedTuple
 
 from exam_desk import beside, typed
-from exam_desk.office import Office
-from exam_desk.trouble import NoOffice, Trouble
+from exam_desk.office import Office, NoOffice, Trouble
 from exam_desk.words import plain
 
 if TYPE_CHECKING:

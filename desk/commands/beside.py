@@ -5,13 +5,11 @@ import sys
 from typing import TYPE_CHECKING
 
 import command
-from exam_desk.trouble import Trouble
+from exam_desk.office import Trouble
 from exam_desk.words import few
 
 if TYPE_CHECKING:
-    from argparse import ArgumentParser
     from collections.abc import Collection, Iterator, Mapping
-
     from exam_desk.on_paper import Line, Move, Papers
     from exam_desk.reading import Reading
 
@@ -32,7 +30,7 @@ was to sit, of a second sitting the paper that it was made of; one that they mis
 listed as not sat. Where nobody noted anything of a session, all who have a desk are listed as present, and a note says
 so; so does one of who was noted, and has left the session.
 """)
-def absent(parser: ArgumentParser) -> None:
+def absent(parser: command.Parser) -> None:
     from exam_desk import facts, lists, notebook
     parser.add_argument("--there", metavar="NUMBER", nargs="+", default=[], help="who is not absent after all")
     given = command.given(parser, "session?", "number*", "--nobody: nobody was absent")
@@ -91,7 +89,7 @@ file stay. A text has at most 200 bytes. Where one row is wrong no row is taken.
 user alone, and in its copies; `office back` leaves them as they are. A line says which printed papers have another
 note. The log has whose note is another, and no text of it.
 """)
-def notes(parser: ArgumentParser) -> None:
+def notes(parser: command.Parser) -> None:
     from exam_desk import facts, files, notebook, on_paper
     from exam_desk.sheets import texts
     given = command.given(parser, "file?")
@@ -123,7 +121,7 @@ def tell_papers(papers: Mapping[str, Papers]) -> None:
 Nothing but this command notes it: to look at a page notes nothing. On the day write *absent* on the paper rather than
 withdraw, since a withdrawal can give others another desk.
 """)
-def printed(parser: ArgumentParser) -> None:
+def printed(parser: command.Parser) -> None:
     from exam_desk import on_paper
     given = command.given(parser, "session?", "--look: notes nothing, and compares")
     with command.reading() as reading:
@@ -182,7 +180,7 @@ def place(line: Line | None, nowhere: str) -> str:
 RUNNING is across, across-and-back, down or down-and-up, seen from the front of the hall. No seat depends on it. A line
 says which printed papers show it otherwise.
 """)
-def rows(parser: ArgumentParser) -> None:
+def rows(parser: command.Parser) -> None:
     from exam_desk import facts, notebook, on_paper
     parser.add_argument("hall", metavar="HALL", nargs="?")
     parser.add_argument("across", metavar="DESKS-IN-A-ROW", nargs="?", type=int)
@@ -206,7 +204,7 @@ def rows(parser: ArgumentParser) -> None:
 
 Without words it prints both. '' takes one away. A line says which printed papers have another name.
 """)
-def school(parser: ArgumentParser) -> None:
+def school(parser: command.Parser) -> None:
     from exam_desk import notebook, on_paper
     parser.add_argument("--page", metavar="ADDRESS", help="of the candidates' page; it stands on slips")
     given = command.given(parser, "name?")

@@ -4,8 +4,7 @@ from __future__ import annotations
 from functools import partial
 
 import command
-from exam_desk.office import Office
-from exam_desk.trouble import Trouble
+from exam_desk.office import Office, Trouble
 from exam_desk.words import plain
 
 

@@ -8,18 +8,15 @@ from typing import TYPE_CHECKING
 
 import command
 from exam_desk import typed
-from exam_desk.trouble import Trouble
+from exam_desk.office import Office, Trouble
 from exam_desk.words import plain
 
 if TYPE_CHECKING:
-    from argparse import ArgumentParser, Namespace
-
-    from command import Plan
-    from exam_desk.office import Office
+    from argparse import Namespace
     from exam_desk.workbook.reading import Reading
 
 
-def add_reading(parser: ArgumentParser, is_folder: bool = False) -> None:
+def add_reading(parser: command.Parser, is_folder: bool = False) -> None:
     """The options of a command that reads values as a spreadsheet writes them: of a folder these alone."""
     from exam_desk.files import HEADERS
     parser.add_argument("--dates", choices=["day-first", "month-first"], default="", help="what 01/06/2027 means")
@@ -82,7 +79,7 @@ def made(source: str, new: str, given: Namespace, is_folder: bool, lines_name: s
 It is the zip that the page Office hands out in a browser, and takes back: the office as it is at one moment, its
 notebook and its log. It is for its owner alone, since it holds all access codes. A file that is there stays as it is.
 """)
-def backup(parser: ArgumentParser) -> None:
+def backup(parser: command.Parser) -> None:
     from exam_desk import backups, files, private
     path, office = command.given(parser, "file").file, command.existing_office()
     files.put(path, private.zipped(office.path, f"office-{office.today()}", partial(backups.fill, office)))
@@ -100,7 +97,7 @@ notes who would have no desk, who would miss a paper, who would sit otherwise, a
 Candidates without an access code are no mistake: one line counts them, and says how `office take` fills the codes in.
 The status is 1 if `office import` would refuse a file: for a mistake, or for a code that is empty.
 """)
-def check_files(parser: ArgumentParser) -> bool:
+def check_files(parser: command.Parser) -> bool:
     from exam_desk import checking, lists
     gc.disable()  # a file can have a million rows, and no row refers to itself
     given = command.given(parser, "folder")
@@ -127,7 +124,7 @@ without CANDIDATES.csv their rows alone are written, as the office has them.
 It writes a new file for its owner alone, never over one that is there: look at it, and import it. With --import it
 writes none. A code has ten letters and digits, no vowels and nothing that looks alike, and begins with a letter.
 """, changes=True)
-def codes(parser: ArgumentParser) -> Plan:
+def codes(parser: command.Parser) -> command.Plan:
     from commands import programs
     from exam_desk import coding, files, lists
     from exam_desk.changing import Step
@@ -166,7 +163,7 @@ on. Each value is in quotes, and names are as they are: to a spreadsheet one tha
 column has the format text. With --workbook it writes one .xlsx instead, of seven sheets whose columns have that format;
 `office read` reads it.
 """)
-def dump(parser: ArgumentParser) -> None:
+def dump(parser: command.Parser) -> None:
     from exam_desk import dumping
     parser.add_argument("--workbook", metavar="FILE.xlsx", help="write a workbook in place of a folder")
     given = command.given(parser, "folder?")
@@ -185,7 +182,7 @@ zeros back, dates and times their form, and each change is a line with its file,
 candidates!A17. What cannot be decided is a MISTAKE with a cure; where there is one nothing is written, and the status
 is 1. The files of FOLDER stay. The new folder is for its owner alone, and has all these lines, too, in mend.txt.
 """)
-def mend(parser: ArgumentParser) -> int:
+def mend(parser: command.Parser) -> int:
     add_reading(parser, is_folder=True)
     given = command.given(parser, "folder", "new?")
     return made(given.folder, given.new or os.path.abspath(given.folder) + "-mended", given, True, "mend.txt")
@@ -203,7 +200,7 @@ with its cell; what cannot be decided is a MISTAKE with a cure. Where there is o
 through them before the import. Colours of cells and comments are not read, and the results of formulas are those of the
 last save.
 """)
-def read(parser: ArgumentParser) -> int:
+def read(parser: command.Parser) -> int:
     add_reading(parser)
     given = command.given(parser, "workbook", "folder?")
     new = given.folder or os.path.splitext(os.path.basename(given.workbook))[0]
@@ -221,7 +218,7 @@ changed, and the status is 1. It tries all imports on a private copy of the offi
 would lose a desk, move, get one, join or leave. Then it imports in order, whole or not at all; `office back 1` takes
 all of it back.
 """, changes=True)
-def take(parser: ArgumentParser) -> Plan:
+def take(parser: command.Parser) -> command.Plan:
     from commands import programs
     from exam_desk import coding
     add_reading(parser)
@@ -244,7 +241,7 @@ Its cells have the format text, so that no spreadsheet changes what is typed; ea
 column takes, and codes are chosen from lists. The row that begins with `e.g.` is an example, which `office read`
 leaves out.
 """)
-def template(parser: ArgumentParser) -> None:
+def template(parser: command.Parser) -> None:
     from exam_desk.workbook.reading import put_workbook
     put_workbook(path := command.given(parser, "file").file)
     command.say(f"{plain(path)}: fill it, then office read {plain(path)}\n")

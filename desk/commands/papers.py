@@ -5,16 +5,10 @@ import contextlib
 import functools
 import os
 import re
-from typing import TYPE_CHECKING
 
 import command
 from exam_desk import typed
-from exam_desk.trouble import Trouble
-
-if TYPE_CHECKING:
-    from argparse import ArgumentParser
-
-    from exam_desk.office import Office
+from exam_desk.office import Office, Trouble
 
 MOST_BYTES = 1 << 20  # no printed shortage is as long
 PAGES = {  # the words that each takes, as in `command.given`, and what `--help` prints
@@ -65,7 +59,7 @@ Free desks beside candidates who are short are in halls that do not suit them: `
 }
 
 
-def print_page(name: str, words: str, parser: ArgumentParser) -> None:
+def print_page(name: str, words: str, parser: command.Parser) -> None:
     """Prints the page that the function of this name makes; without the charts of halls that it cannot draw."""
     from exam_desk.sheets import papers, texts
     make = texts.summary if name == "summary" else getattr(papers, name)
@@ -100,7 +94,7 @@ program answers for each candidate; a dozen are compared with its own, and where
 status is 1. The heading stands on each page again, and a line that is too long goes on in the next, indented. A hall
 in which nobody sits has no sheet, nor has a paper that nobody sits.
 """)
-def print_session(parser: ArgumentParser) -> None:
+def print_session(parser: command.Parser) -> None:
     from exam_desk.sheets import printing
     parser.add_argument("--lines", type=int, default=60, help="of a page, 60 if not given")
     parser.add_argument("--columns", type=int, default=76, help="of a line, 76 if not given")
@@ -117,7 +111,7 @@ Writes one HTML page of a session, with shortage, clashes and appeals: session-p
 The page needs no other file, and prints on A4. The shortage is the program's sheet; of those without a desk the page
 says why, hall by hall. All is of one state of the office. If the program refuses the sheet, nothing is written.
 """)
-def session_page(parser: ArgumentParser) -> bool:
+def session_page(parser: command.Parser) -> bool:
     from exam_desk.sheets.session_page import Page
     given = command.given(parser, "session")
     with command.reading() as reading:
@@ -137,7 +131,7 @@ them late. A page for a browser, five or so slips on a sheet of A4, by name: num
 papers and halls by title, and the arrangement in force. With --order each group begins a page, in the order in which
 the file has them, and who is in none comes last. The CSV has a row for each candidate and session, and no formula.
 """)
-def slips(parser: ArgumentParser) -> None:
+def slips(parser: command.Parser) -> None:
     from exam_desk import files
     from exam_desk.reading import of_few
     from exam_desk.sheets import slips
@@ -164,7 +158,7 @@ Lists the open appeals of all sessions, or of some, the most urgent first: appea
 
 Each has a name, a reason and the last day to decide.
 """)
-def appeals_open(parser: ArgumentParser) -> None:
+def appeals_open(parser: command.Parser) -> None:
     from exam_desk import appeals
     given = command.given(parser, "session*")
     with command.rows() as rows:
@@ -182,7 +176,7 @@ lost a need, who sits another paper, in another hall, or at another time, who ha
 and last whose desk alone is another. A line of these last ones begins with no !: they need not be told. In the CSV an
 apostrophe stands in front of a text that a spreadsheet would take for a formula.
 """)
-def changes(parser: ArgumentParser) -> None:
+def changes(parser: command.Parser) -> None:
     from exam_desk import telling
     from exam_desk.sheets import papers
     form = parser.add_mutually_exclusive_group()
@@ -228,7 +222,7 @@ Halls are rows of the office's file; what each candidate needs, and until when, 
 proves that desks are short: its candidates can sit only in its halls, which have fewer desks than they are. So every
 plan leaves as many without one as the sheet counts. `examples/check-office` trusts nothing that the program says.
 """)
-def check_shortage(parser: ArgumentParser) -> bool:
+def check_shortage(parser: command.Parser) -> bool:
     from exam_desk import lists, reasons
     path = command.given(parser, "sheet").sheet
     with open(0 if path == "-" else path, "rb", closefd=path != "-") as file:
@@ -248,7 +242,7 @@ def check_shortage(parser: ArgumentParser) -> bool:
 
 Entries with seats, arrangements, and appeals with reasons and answers.
 """)
-def look(parser: ArgumentParser) -> None:
+def look(parser: command.Parser) -> None:
     from exam_desk import facts
     from exam_desk.reading import of_few
     from exam_desk.sheets import texts
@@ -274,7 +268,7 @@ Writes the titles of papers and halls and the days of sessions, for the candidat
 Each later change of sessions, papers or halls writes the file again; remove it to end that. Whoever finds the page can
 read it: it has nothing of any candidate.
 """)
-def titles(parser: ArgumentParser) -> None:
+def titles(parser: command.Parser) -> None:
     from exam_desk import beside, titles
     given = command.given(parser, "file?: a file to write; without it the titles are printed")
     with command.rows() as rows:
@@ -298,7 +292,7 @@ Where that would pass 60 lines for all, they stand by their needs, and each reas
 reads. Needs are those of the arrangement in force and what the paper requires. What could help are guesses: commands
 that open a hall, or have it open for longer or with more desks.
 """)
-def why(parser: ArgumentParser) -> bool:
+def why(parser: command.Parser) -> bool:
     from exam_desk import reasons, remedies
     given = command.given(parser, "session", "number?")
     number = typed.candidate_number(given.number) if given.number else None

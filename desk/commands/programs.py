@@ -12,10 +12,9 @@ import command
 from exam_desk import (beside, changing, copies, effects, files, listed, lists, lodging, logbook, notebook,
                        private, refusals, running, snapshot, turns, typed)
 from exam_desk.changing import Answered, Rehearsal, Step
-from exam_desk.office import Office
+from exam_desk.office import Office, Stale, Trouble
 from exam_desk.reading import Reading
 from exam_desk.running import Ran
-from exam_desk.trouble import Stale, Trouble
 from exam_desk.words import Said, few, plain
 
 MIGRATE = "migrate"
@@ -242,14 +241,15 @@ def dispatch(office: Office, words: list[str]) -> Ran:
     if words == ["init"]:
         return changing.make_new(office)
     if words[0] == "check" and os.path.isfile(office.path):  # changes no facts, but needs the office for itself
-        # With a log it is an office that is used, and `back` leaves one file; a copy of the desk has all that there was.
+        # With a log it is an office that is used, and `back` leaves one file; a copy of the desk has all there was.
         place = os.path.realpath(office.path)
         seen = (f"{place}-wal", beside.folder(place, logbook.NAME), os.path.join(os.path.dirname(place), copies.TITLE))
         is_lacking = not any(map(os.path.exists, seen)) and f"/desk-{office.base_name()}/{beside.DAYS}/" not in place
         with contextlib.suppress(OSError), turns.alone(office, words):
             ran = changing.run_patiently(office, changing.Step(tuple(words)))
             if is_lacking and ran.status == 0:
-                command.warn(f"NOTE {office.base_name()}-wal does not lie beside it: in a backup the last appeals may be lacking")
+                command.warn(f"NOTE {office.base_name()}-wal does not lie beside it: in a backup the last appeals may "
+                             "be lacking")
             return ran
     if words[0] not in running.SHEETS:
         return running.run_over(office, office.path, *words, output=None)

@@ -3,13 +3,9 @@ from __future__ import annotations
 
 import os
 import sys
-from typing import TYPE_CHECKING
 
 import command
-from exam_desk.trouble import Trouble
-
-if TYPE_CHECKING:
-    from argparse import ArgumentParser
+from exam_desk.office import Trouble
 
 PORT, DAYS = "8080", 30
 FIRST, PORTS = 8717, 20  # the first port of a desk that is tried where none is given, and how many after it
@@ -33,7 +29,7 @@ MISSING = ("the desk in a browser needs python3-{}: `apt install python3-flask p
 An office has one desk: where one runs, `office desk` prints a link of that. It runs beside `office keep` and beside
 other commands. Ctrl-C ends it. It needs python3-flask and python3-waitress.
 """)
-def desk(parser: ArgumentParser) -> None:
+def desk(parser: command.Parser) -> None:
     if sys.executable != PYTHON:
         os.execv(PYTHON, [PYTHON, command.OFFICE, "desk", *sys.argv[1:]])
     parser.add_argument("--port", type=int, metavar="NUMBER", help=f"{FIRST} or the next that is free")
@@ -66,7 +62,7 @@ its group may use the socket, so give it the group of nginx. At each new day `ke
 serves with the new date; where `serve` fails or hangs it begins anew. A candidate notices nothing of the gaps: each
 request waits up to 30 seconds for its answer. It writes to keep.log in desk-office.db, beside the copies of days.
 """)
-def keep(parser: ArgumentParser) -> bool:
+def keep(parser: command.Parser) -> bool:
     from exam_desk import beside, keeping, turns
     parser.add_argument("what", choices=["start", "run", "stop", "status"])
     parser.add_argument("place", type=place_of, nargs="?", default=PORT, help="a port, or a folder for the socket")

@@ -20,8 +20,8 @@ OPEN = ("SELECT appeal.*, day, name FROM appeal JOIN session ON session.code = s
         "JOIN candidate ON candidate.number = appeal.number WHERE state = 1 "
         "ORDER BY day, session.start, session, appeal.number, ref")
 COMPARED = ("SELECT number, ref, session, old.state, old.stands, new.state, new.stands, old.answer IS new.answer "
-            "FROM {} AS old LEFT JOIN {} AS new USING (number, ref, session, kind, target, needs, extra, reason, lodged) "
-            "ORDER BY number, ref")
+            "FROM {} AS old LEFT JOIN {} AS new "
+            "USING (number, ref, session, kind, target, needs, extra, reason, lodged) ORDER BY number, ref")
 
 
 def fate(state: int, is_standing: bool) -> Said:

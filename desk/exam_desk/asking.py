@@ -19,8 +19,7 @@ from collections.abc import Callable, Sequence
 from typing import NamedTuple
 
 from exam_desk import running
-from exam_desk.office import Office
-from exam_desk.trouble import Trouble
+from exam_desk.office import Office, Trouble
 
 HOST = "127.0.0.1"
 SHOWN_HOST = f"{int.from_bytes(socket.inet_aton(HOST), sys.byteorder):08X}"  # as /proc/net/tcp shows it

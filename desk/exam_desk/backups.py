@@ -17,8 +17,7 @@ from collections.abc import Callable, Iterator, Mapping
 from typing import IO
 
 from exam_desk import beside, copies, files, logbook, notebook, private, running
-from exam_desk.office import Office
-from exam_desk.trouble import Trouble
+from exam_desk.office import Office, Trouble
 from exam_desk.workbook.cells import PASSWORD
 
 OFFICE, ZIP = b"SQLite format 3\0", b"PK\3\4"  # how their bytes begin

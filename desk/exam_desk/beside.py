@@ -12,7 +12,7 @@ import pwd
 import stat
 from collections.abc import Iterator
 
-from exam_desk.trouble import Trouble
+from exam_desk.office import Trouble
 
 OTHERS = stat.S_IWGRP | stat.S_IWOTH
 AS_FOLDER = os.O_RDONLY | os.O_DIRECTORY

@@ -23,8 +23,7 @@ from typing import NamedTuple
 
 from exam_desk import (beside, copies, files, lists, logbook, notebook, private, refusals, running, snapshot,
                        titles, turns)
-from exam_desk.office import Office
-from exam_desk.trouble import Stale, Trouble
+from exam_desk.office import Office, Stale, Trouble
 from exam_desk.words import Said, few
 
 PAUSE = 0.2  # seconds from one try to the next

@@ -11,9 +11,8 @@ from dataclasses import replace
 from exam_desk import changing, coding, effects, files, lists, mistakes, overlaps, private, running, snapshot
 from exam_desk.asking import Progress
 from exam_desk.changing import Step, Tell
-from exam_desk.office import Office
+from exam_desk.office import Office, Trouble
 from exam_desk.reading import Reading
-from exam_desk.trouble import Trouble
 from exam_desk.words import plain
 
 MOST_SHOWN = 5  # mistakes or notes on one column of a file

@@ -8,8 +8,7 @@ from typing import TYPE_CHECKING, NamedTuple
 
 from exam_desk import facts, files, lists, mistakes, snapshot
 from exam_desk.changing import Step
-from exam_desk.office import Office
-from exam_desk.trouble import NoCandidate, Trouble
+from exam_desk.office import Office, NoCandidate, Trouble
 
 if TYPE_CHECKING:
     from exam_desk.workbook.reading import Reading

@@ -1,7 +1,5 @@
 """Copies of an office from before each change and from each day; how one is put in the place of the office; and what is
 lost by that: appeals, decisions, and the office itself where the copy is of other people."""
-from __future__ import annotations
-
 import contextlib
 import datetime
 import filecmp
@@ -15,8 +13,7 @@ import textwrap
 from collections.abc import Iterator
 
 from exam_desk import appeals, beside, files, notebook, private, running
-from exam_desk.office import Office
-from exam_desk.trouble import Trouble
+from exam_desk.office import Office, Trouble
 from exam_desk.words import Said, plain
 
 MOST_COPIES = 50

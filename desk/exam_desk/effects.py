@@ -8,12 +8,11 @@ from typing import NamedTuple
 
 from exam_desk import copies, facts, lists, logbook, notebook, on_paper, overlaps, telling
 from exam_desk.asking import Progress
-from exam_desk.office import Office
+from exam_desk.office import Office, Trouble
 from exam_desk.overlaps import Overlap
 from exam_desk.reading import Person, Reading
 from exam_desk.second_sitting import left_behind
 from exam_desk.telling import KINDS, Change, Touched, counted
-from exam_desk.trouble import Trouble
 from exam_desk.words import clock, few, plain
 
 OPENINGS = ("SELECT session, hall, day, until, start FROM opening JOIN session ON code = session "

@@ -5,7 +5,7 @@ from collections.abc import Collection
 from typing import NamedTuple
 
 from exam_desk.snapshot import Rows
-from exam_desk.trouble import Trouble
+from exam_desk.office import Trouble
 from exam_desk.words import few
 
 

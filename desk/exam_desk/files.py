@@ -14,7 +14,7 @@ from collections.abc import Callable, Collection, Iterable, Iterator
 from typing import TYPE_CHECKING, NamedTuple
 
 from exam_desk import beside, words
-from exam_desk.trouble import Trouble
+from exam_desk.office import Trouble
 
 if TYPE_CHECKING:
     import sqlite3
@@ -109,9 +109,9 @@ def below_header(text: bytes, path: str, header: Iterable[str], comma: bytes = b
 
 def texts_by_number(content: bytes, path: str, column: str, most: int,
                     known: Collection[str] | None = None) -> dict[str, str]:
-    """The texts by number of a file that is no import, in order; its header is `number` and the column, with a comma or a
-    semicolon. Zeros before a number may be missing. `Trouble` where it is no such file, a text is too long, or a number
-    is not a known one."""
+    """The texts by number of a file that is no import, in order; its header is `number` and the column, with a comma or
+    a semicolon. Zeros before a number may be missing. `Trouble` where it is no such file, a text is too long, or a
+    number is not a known one."""
     found: dict[str, str] = {}
     for row in below_header(content, path, ["number", column], b";" if b";" in content.partition(b"\n")[0] else b","):
         wrong, fields = "", [field.decode("utf-8", "replace") for field in row.fields]

@@ -9,8 +9,6 @@ port or a socket that cannot be had. What it does with the locks of `turns`, aga
     3. It hands requests on. Once those who waited have their answers, or after TURN_SECONDS, it lets go of turn.lock.
     4. When a command asks, the day ends or `serve` fails, it ends `serve`, and lets go of office.lock.
 """
-from __future__ import annotations
-
 import asyncio
 import contextlib
 import datetime
@@ -30,8 +28,7 @@ from io import FileIO
 from typing import NamedTuple
 
 from exam_desk import asking, beside, copies, hold, refusals, running, turns
-from exam_desk.office import Office
-from exam_desk.trouble import Trouble
+from exam_desk.office import Office, Trouble
 from exam_desk.words import plain
 
 JOURNAL = "keep.log"  # beside the office

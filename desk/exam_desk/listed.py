@@ -8,8 +8,7 @@ from io import FileIO
 
 from exam_desk import changing, checking, copies, facts, files, lists, logbook, mistakes, refusals, snapshot, turns
 from exam_desk.changing import Answered, Step
-from exam_desk.office import Office
-from exam_desk.trouble import NoCandidate, Trouble
+from exam_desk.office import Office, NoCandidate, Trouble
 from exam_desk.typed import candidate_number
 from exam_desk.words import few
 
@@ -23,8 +22,8 @@ Tell = Callable[[int, Answered], None]  # hears what became of the row that begi
 
 
 def rows_of(office: Office, command: str, path: str) -> tuple[Rows, list[str]]:
-    """The rows of a file with the header of entries, and a line for each mistake in it, such as an unknown number. Zeros
-    in front of a number may be missing, which is said. Raises `Trouble` where there is no such file, or no row in it."""
+    """The rows of a file with the header of entries, and a line for each mistake in it, such as an unknown number. That
+    zeros in front of a number are missing is said. Raises `Trouble` where there is no such file, or no row in it."""
     try:
         text = files.read(path)
     except OSError as fault:

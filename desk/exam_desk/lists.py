@@ -7,7 +7,7 @@ from typing import TypeVar
 
 from exam_desk import facts
 from exam_desk.reading import Member, Person, Reading, Sitting
-from exam_desk.trouble import Trouble
+from exam_desk.office import Trouble
 
 LETTERS = str.maketrans({"ø": "o", "æ": "ae", "œ": "oe", "ł": "l", "đ": "d", "ð": "d", "þ": "th", "ı": "i",
                          "‘": "'", "’": "'", "ʼ": "'", "‐": "-", "–": "-"})

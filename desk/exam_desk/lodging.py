@@ -1,6 +1,4 @@
 """Lodges an appeal for a candidate who is there, the candidates' way: over HTTP, with the candidate's access code."""
-from __future__ import annotations
-
 import contextlib
 import functools
 import itertools
@@ -11,9 +9,8 @@ from typing import NoReturn
 from exam_desk import asking, beside, logbook, refusals, snapshot, turns, typed
 from exam_desk.asking import Serve
 from exam_desk.changing import Answered, Step
-from exam_desk.office import Office
+from exam_desk.office import Office, Trouble
 from exam_desk.running import Ran
-from exam_desk.trouble import Trouble
 
 TRIES, SECONDS = 3, 60
 KINDS = typed.APPEALS
@@ -21,7 +18,7 @@ KINDS = typed.APPEALS
 
 def candidate(office: Office, number: str) -> tuple[str, str]:
     """The access code of a candidate, and the next free reference. Raises `Trouble` where the office has none such."""
-    with contextlib.closing(snapshot.rows(office)) as connection:
+    with snapshot.rows(office) as connection:
         found = connection.execute("SELECT code FROM candidate WHERE number = ?", [int(number)]).fetchone()
         refs = {ref for ref, in connection.execute("SELECT ref FROM appeal WHERE number = ?", [int(number)])}
     if found is None:

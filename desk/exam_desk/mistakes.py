@@ -1,6 +1,4 @@
 """The mistakes of import files: what the program refuses, in words, and what only a human eye can judge."""
-from __future__ import annotations
-
 import itertools
 import re
 import sqlite3

@@ -5,8 +5,6 @@ Each is a file of JSON in the folder `notebook` beside the office, for the offic
 the office: no seat depends on it. The copies of the office have it too; `office back` leaves what is there as it is,
 and says what of it a copy has otherwise.
 """
-from __future__ import annotations
-
 import contextlib
 import datetime
 import fcntl
@@ -15,14 +13,11 @@ import os
 import re
 from collections import Counter
 from collections.abc import Callable, Collection, Iterable, Iterator, Mapping, Sequence
-from typing import TYPE_CHECKING, NamedTuple, TypeVar
+from typing import NamedTuple, TypeVar
 
 from exam_desk import beside, facts, files, logbook, typed, words
-from exam_desk.office import Office
-from exam_desk.trouble import NoOffice, Trouble
-
-if TYPE_CHECKING:
-    from exam_desk.reading import Member, Reading
+from exam_desk.office import Office, NoOffice, Trouble
+from exam_desk.reading import Member, Reading
 
 PLACE = "notebook"
 SCHOOL, PAGE = "school", "page"

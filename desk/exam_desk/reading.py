@@ -19,8 +19,7 @@ from typing import Any, NamedTuple, TypeVar
 
 from exam_desk import asking, facts, private, running, snapshot, turns
 from exam_desk.asking import Progress, Serve, ask_all
-from exam_desk.office import Office
-from exam_desk.trouble import BadRows, NoCandidate, Trouble
+from exam_desk.office import Office, BadRows, NoCandidate, Trouble
 from exam_desk.words import plain
 
 Found = TypeVar("Found")

@@ -13,7 +13,7 @@ from exam_desk import facts
 from exam_desk.facts import Opening, session_row
 from exam_desk.lists import by_desk, count
 from exam_desk.reading import Member, Reading
-from exam_desk.trouble import Trouble
+from exam_desk.office import Trouble
 from exam_desk.words import FEATURES, clock, features, few, plain
 
 MOST_NAMED, MOST_HALLS = 3, 5  # occupants of a full hall, halls of a reason

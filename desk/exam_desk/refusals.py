@@ -9,8 +9,7 @@ import tempfile
 from collections.abc import Sequence
 
 from exam_desk import beside, files, turns
-from exam_desk.office import Office
-from exam_desk.trouble import NoOffice, Trouble
+from exam_desk.office import Office, NoOffice, Trouble
 from exam_desk.words import plain
 
 SENTENCES = {

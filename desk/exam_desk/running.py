@@ -9,8 +9,7 @@ from collections.abc import Iterator
 from io import FileIO
 from typing import NamedTuple
 
-from exam_desk.office import Office
-from exam_desk.trouble import Trouble
+from exam_desk.office import Office, Trouble
 
 PR_SET_PDEATHSIG = 1
 INPUT = "/dev/stdin"

@@ -15,7 +15,7 @@ from exam_desk.changing import Step
 from exam_desk.reading import Member, Reading, Sitting
 from exam_desk.reasons import Reasons
 from exam_desk.snapshot import Rows
-from exam_desk.trouble import Trouble
+from exam_desk.office import Trouble
 from exam_desk.words import Said, clock, feature_text, plain
 
 MOST_LETTERS = 12  # of the code of a session or a paper
@@ -254,7 +254,7 @@ def left_behind(before: Reading, after: Reading) -> list[Said]:
 
 
 def in_closed_halls(before: Reading, after: Reading, made: Pairs) -> Iterator[Said]:
-    """What is said of each hall which a change closes for a session, and which stays open for a second sitting of it."""
+    """What is said of each hall that a change closes for a session, and that stays open for a second sitting of it."""
     were, are = ({(row["session"], row["hall"]) for row in each.rows.execute("SELECT * FROM opening")}
                  for each in (before, after))
     later = {(first["session"], second["session"]) for first, second in made}

@@ -10,8 +10,7 @@ import sqlite3
 from typing import Literal
 
 from exam_desk import private
-from exam_desk.office import Office
-from exam_desk.trouble import BadRows, NoOffice, Trouble
+from exam_desk.office import Office, BadRows, NoOffice, Trouble
 
 VERSION = 3
 INDEXES = ("PRAGMA query_only = OFF; CREATE INDEX IF NOT EXISTS paper_by_session ON paper (session); "

@@ -12,7 +12,7 @@ from typing import NamedTuple
 from exam_desk import facts, files
 from exam_desk.lists import name_order
 from exam_desk.reading import Reading, Sitting
-from exam_desk.trouble import Trouble
+from exam_desk.office import Trouble
 from exam_desk.words import few, plain
 
 COLUMNS = ["date", "start", "finish", "paper", "hall", "desk"]

@@ -6,9 +6,8 @@ import os
 import tempfile
 
 from exam_desk import beside, facts, files, snapshot
-from exam_desk.office import Office
+from exam_desk.office import Office, Trouble
 from exam_desk.snapshot import Rows
-from exam_desk.trouble import Trouble
 from exam_desk.words import clock
 
 SESSIONS, PAPERS, HALLS = KINDS = ("sessions", "papers", "halls")  # in the file; of its rows
@@ -36,7 +35,7 @@ def is_one(path: str) -> bool:
 
 
 def put(path: str, content: str) -> None:
-    """Writes the file whole, or leaves the one that is there. Raises `Trouble` where that is none of titles, since a slip
+    """Writes the file whole, or leaves the one that is there. `Trouble` where that is none of titles, since a slip
     would cost an office."""
     if os.path.lexists(path) and not is_one(path):
         raise Trouble("is there and is no file of titles: name another one, or remove it first", path)
@@ -54,7 +53,7 @@ def keep(office: Office, path: str) -> None:
 
 
 def renew(office: Office) -> None:
-    """Writes the file again, if one is kept and is there. In place of one that cannot be written a warning has to do."""
+    """Writes the file again, if one is kept and is there. Where it cannot be written, a warning has to do."""
     try:
         with open(beside.open_file(office.path, PLACE, flags=os.O_RDONLY), "rb") as file:
             path = os.fsdecode(file.read())

@@ -24,8 +24,7 @@ from io import FileIO
 from typing import TypedDict, cast
 
 from exam_desk import beside
-from exam_desk.office import Office
-from exam_desk.trouble import Trouble
+from exam_desk.office import Office, Trouble
 
 PATIENCE = 60  # seconds that a command waits for others
 SILENCE = 5  # seconds after which it says behind whom it waits

@@ -2,7 +2,7 @@
 from collections.abc import Sequence
 
 from exam_desk import files
-from exam_desk.trouble import Trouble
+from exam_desk.office import Trouble
 
 KIND = "kind of appeal"
 REASON, MOST_REASON = "reason", 200  # bytes; it is private, and so is not shown

@@ -12,7 +12,7 @@ from werkzeug.wrappers import Response
 
 from exam_desk import appeals, beside, on_paper
 from exam_desk.telling import people_and_sittings
-from exam_desk.trouble import Trouble
+from exam_desk.office import Trouble
 from exam_desk.words import FEATURES
 from exam_web import candidates, forms, guard, office, proposals, season, session, uploads, wording
 from exam_web.desk import Desk, StillReading, desk

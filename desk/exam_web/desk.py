@@ -15,9 +15,8 @@ from typing import Any, Concatenate, NamedTuple, ParamSpec, TypeVar
 from flask import abort, current_app, g, has_request_context, request
 
 from exam_desk import effects, facts
-from exam_desk.office import Office
+from exam_desk.office import Office, Trouble
 from exam_desk.reading import Reading
-from exam_desk.trouble import Trouble
 
 PATIENCE, LONG = 4, 3600  # seconds that a page, and a form, waits for the office to be read
 MANY, TURN = 200, 0.005  # candidates who are asked of at once, and the seconds that others have their turn then

@@ -15,7 +15,7 @@ from werkzeug.datastructures import MultiDict
 from werkzeug.wrappers import Response
 
 from exam_desk import mistakes, on_paper, private, typed
-from exam_desk.trouble import Trouble
+from exam_desk.office import Trouble
 from exam_web.desk import desk
 from exam_web.wording import said, text
 

@@ -12,7 +12,7 @@ from markupsafe import Markup
 from werkzeug.datastructures import FileStorage
 
 from exam_desk import backups, files, mistakes
-from exam_desk.trouble import Trouble
+from exam_desk.office import Trouble
 from exam_desk.workbook.cells import MOST_CELLS, MOST_FILE
 from exam_desk.workbook.cells import Book as OpenBook
 from exam_desk.workbook.headers import Given, folded, is_called_list, read_columns

@@ -13,7 +13,7 @@ from markupsafe import Markup, escape
 from werkzeug.wrappers import Response
 
 from exam_desk import backups, changing, copies, facts, keeping, logbook, notebook, on_paper, turns
-from exam_desk.trouble import Stale, Trouble
+from exam_desk.office import Stale, Trouble
 from exam_desk.words import Said
 from exam_web.desk import View, desk, office, once, sums, view
 from exam_web.forms import Wrong, archive, at_field, lead, tell_papers, whole

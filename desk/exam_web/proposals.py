@@ -25,10 +25,9 @@ from exam_desk import (changing, copies, effects, facts, files, lodging, logbook
                        second_sitting, snapshot, telling, words)
 from exam_desk.changing import Answered, Step
 from exam_desk.listed import OF_THE_OFFICE
-from exam_desk.office import Office
+from exam_desk.office import Office, Stale, Trouble
 from exam_desk.reading import Reading
 from exam_desk.second_sitting import left_behind
-from exam_desk.trouble import Stale, Trouble
 from exam_web.desk import AT_ONCE, PATIENCE, Desk, View, desk, office, sums, unseated, view
 from exam_web.forms import Asked, Form, Page, Wrong, attached, keep, lead
 from exam_web.wording import link, said, text

@@ -10,7 +10,7 @@ from werkzeug.wrappers import Response
 
 from exam_desk import appeals, changing, facts, logbook, notebook, on_paper, turns
 from exam_desk.telling import people_and_sittings
-from exam_desk.trouble import Trouble
+from exam_desk.office import Trouble
 from exam_web import candidates
 from exam_web.desk import Sums, desk, office, sums, two_papers, unseated, view
 from exam_web.forms import lead

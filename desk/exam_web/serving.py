@@ -9,8 +9,7 @@ from collections.abc import Callable, Sequence
 import waitress
 
 from exam_desk import turns
-from exam_desk.office import Office
-from exam_desk.trouble import Trouble
+from exam_desk.office import Office, Trouble
 from exam_web import application, guard
 from exam_web.desk import Desk
 

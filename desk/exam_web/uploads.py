@@ -207,7 +207,8 @@ def import_files(form: Form) -> Plan:
     withdrawn = mistakes.Known(view().reading.rows).withdrawn
     stay = sum(row.fields in withdrawn for row in below_header(texts.get("entries", b"")))
     said = [many(stay, "{count} of these entries is withdrawn in the office, and stays so until it is reinstated.",
-                 "{count} of these entries are withdrawn in the office, and stay so until they are reinstated.")] * (stay > 0)
+                 "{count} of these entries are withdrawn in the office, and stay so until they are reinstated.")
+            ] * (stay > 0)
     return Plan({"kinds": ", ".join(upload.kinds)}, steps, page, done=partial(setattr, upload, "is_imported", True),
                 look=lambda before, after: [*said, *left_behind(before, after)])
 

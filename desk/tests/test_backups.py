@@ -12,7 +12,7 @@ from unittest import mock
 
 import sample
 from exam_desk import backups, changing, copies, files, notebook, private, snapshot
-from exam_desk.trouble import Stale, Trouble
+from exam_desk.office import Stale, Trouble
 
 APPEAL = "INSERT INTO appeal VALUES (1051, 'HA1', 'MON-AM', 1, 'PC1', 0, 0, 'x', 1, NULL, '2027-05-01')"
 

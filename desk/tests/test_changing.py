@@ -12,8 +12,7 @@ import sample
 from breaking import kill_often, kill_rehearsals
 from exam_desk import changing, copies, files, logbook, snapshot
 from exam_desk.changing import Step
-from exam_desk.office import Office
-from exam_desk.trouble import Stale, Trouble
+from exam_desk.office import Office, Stale, Trouble
 
 KILLS, SEED = 5, 20261129
 APPEAL = "INSERT INTO appeal VALUES (1051, ?, 'MON-AM', 1, 'PC1', 0, 0, 'a draught', ?, NULL, '2027-05-01')"

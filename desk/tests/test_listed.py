@@ -15,8 +15,7 @@ import sample
 import test_changing
 from commands import programs
 from exam_desk import listed, logbook
-from exam_desk.office import Office
-from exam_desk.trouble import Trouble
+from exam_desk.office import Office, Trouble
 
 GOOD = "number,paper\n0001000,MA-1\n0001017,MA-1\n"
 NAME = 'leave, "=1+1".csv'

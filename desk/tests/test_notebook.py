@@ -20,7 +20,7 @@ from exam_desk import beside, copies, files, logbook, notebook, on_paper  # noqa
 from exam_desk.notebook import Rows  # noqa: E402
 from exam_desk.office import Office  # noqa: E402
 from exam_desk.on_paper import Desk  # noqa: E402
-from exam_desk.trouble import Trouble  # noqa: E402
+from exam_desk.office import Trouble  # noqa: E402
 
 HOSTILE = '=1+1 "quoted", <b>bold</b> \u202eleft \u009b2J é'
 KNOWN = {"0000001", "0000002", "0000003"}

@@ -13,7 +13,7 @@ import sample
 
 from exam_desk import appeals, asking  # beside the tests' folder
 from exam_desk.reading import Reading, of_few
-from exam_desk.trouble import Trouble
+from exam_desk.office import Trouble
 
 KILLED = """
 import sys, time

@@ -15,7 +15,7 @@ from unittest import mock
 
 import sample
 from exam_desk import asking, hold, keeping, turns
-from exam_desk.trouble import Trouble
+from exam_desk.office import Trouble
 
 NOBODY = 65534
 STARTS = 4

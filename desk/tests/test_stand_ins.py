@@ -17,7 +17,7 @@ from exam_desk.facts import session_row
 from exam_desk.reading import Reading
 from exam_desk.sheets import papers, printing, slips, texts
 from exam_desk.sheets.session_page import Page
-from exam_desk.trouble import Trouble
+from exam_desk.office import Trouble
 
 SESSION, NUMBER, NAME = "MON-AM", "0001153", "Jana Roe"
 UNSEATED = "0001187"

@@ -9,7 +9,7 @@ import test_changing
 from commands import programs
 from exam_desk import changing, snapshot, telling
 from exam_desk.reading import Sitting
-from exam_desk.trouble import Stale
+from exam_desk.office import Stale
 
 
 class WhatIf(test_changing.Changing):

@@ -20,7 +20,7 @@ sys.path.append(str(HERE))
 import corpus  # noqa: E402
 import rawbook  # noqa: E402
 from exam_desk.mistakes import Known  # noqa: E402
-from exam_desk.trouble import Trouble  # noqa: E402
+from exam_desk.office import Trouble  # noqa: E402
 from exam_desk.workbook import opening  # noqa: E402
 from exam_desk.workbook.cells import Sheet, packed, unpacked  # noqa: E402
 from exam_desk.workbook.reading import Reading, mend_folder, workbook_of, write_folder, write_kind  # noqa: E402

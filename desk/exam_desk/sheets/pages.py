@@ -2,8 +2,6 @@
 
 What is Markup is HTML already; every other value is escaped where it is put in, and what hides in it is shown as `?`.
 """
-from __future__ import annotations
-
 import pathlib
 import re
 from collections.abc import Iterable, Sequence

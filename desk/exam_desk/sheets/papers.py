@@ -2,8 +2,6 @@
 
 Who asks for halls gets their sheets alone, as `lists.halls` has them. Besides, who must be told of changes.
 """
-from __future__ import annotations
-
 import sqlite3
 import unicodedata
 from collections import Counter, defaultdict
@@ -19,7 +17,7 @@ from exam_desk.reading import Member, Reading, Sitting
 from exam_desk.sheets.pages import (CODE, HEADED, document, hall_names, html, joined, paper_names, safe, school, table,
                                     text)
 from exam_desk.telling import Change
-from exam_desk.trouble import Trouble
+from exam_desk.office import Trouble
 from exam_desk.words import clock, long_day, short_day
 
 BOARD = "<h1>{}{}</h1>\n<p class=legend>{}</p>\n<div class=columns>{}</div>\n"

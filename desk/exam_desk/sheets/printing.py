@@ -4,8 +4,6 @@ Of a large session there are hundreds, and each would take an opening of the off
 member sits, and the sheets are written from that, in the form of the program's; a dozen of them it prints as well, and
 these must be alike.
 """
-from __future__ import annotations
-
 import math
 import sqlite3
 from collections.abc import Callable, Iterator
@@ -13,7 +11,7 @@ from collections.abc import Callable, Iterator
 from exam_desk import facts
 from exam_desk.lists import by_desk
 from exam_desk.reading import Reading
-from exam_desk.trouble import Trouble
+from exam_desk.office import Trouble
 from exam_desk.words import clock, plain
 
 HEADING = 2  # lines of each sheet

@@ -1,6 +1,4 @@
 """One page of a session: halls, shortage, who sits where, clashes and appeals."""
-from __future__ import annotations
-
 from collections.abc import Sequence
 
 from markupsafe import Markup

@@ -1,6 +1,4 @@
 """A slip of paper for each candidate, to be cut out and handed over; or what stands on them as CSV, for letters."""
-from __future__ import annotations
-
 from collections.abc import Collection, Iterator, Mapping
 from typing import NamedTuple
 
@@ -10,7 +8,7 @@ from exam_desk import facts, files, lists, notebook, overlaps
 from exam_desk.reading import Person, Reading, Sitting
 from exam_desk.sheets import pages
 from exam_desk.sheets.pages import html, joined, text
-from exam_desk.trouble import Trouble
+from exam_desk.office import Trouble
 from exam_desk.words import few, short_day
 
 HEADS = ["w:Day", "w:Time", "Paper", "Hall"]

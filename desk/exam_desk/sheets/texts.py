@@ -1,6 +1,4 @@
 """What lists say as text: of a candidate, of two papers at once, of each session, of notes."""
-from __future__ import annotations
-
 import itertools
 import re
 import sqlite3
@@ -9,10 +7,9 @@ from collections.abc import Collection, Iterator
 
 from exam_desk import appeals, facts, lists, overlaps
 from exam_desk.lists import has_words, letters
-from exam_desk.office import Office
+from exam_desk.office import Office, Trouble
 from exam_desk.reading import Person, Reading, Sitting
 from exam_desk.snapshot import Rows
-from exam_desk.trouble import Trouble
 from exam_desk.words import clock, feature_text, plain
 
 MOST_SHOWN = 10  # candidates; of more only names and numbers

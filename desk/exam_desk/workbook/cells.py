@@ -14,7 +14,7 @@ from dataclasses import dataclass, field
 from typing import NamedTuple
 from xml.etree.ElementTree import Element, iterparse
 
-from exam_desk.trouble import Trouble
+from exam_desk.office import Trouble
 
 MOST_FILE = 64 << 20  # bytes of the workbook
 MOST_UNPACKED = 512 << 20  # bytes that come out of it, in all

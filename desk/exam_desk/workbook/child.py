@@ -25,7 +25,7 @@ def limit(most_written: int) -> None:
 
 
 def read(data: bytes) -> bytes:
-    from exam_desk.trouble import Trouble
+    from exam_desk.office import Trouble
     from exam_desk.workbook.cells import OPEN_AND_SAVE, PASSWORD, packed
     try:
         with zipfile.ZipFile(io.BytesIO(data)) as archive:

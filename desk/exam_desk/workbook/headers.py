@@ -8,7 +8,7 @@ from types import MappingProxyType
 from typing import NamedTuple
 
 from exam_desk import files, mistakes
-from exam_desk.trouble import Trouble
+from exam_desk.office import Trouble
 from exam_desk.workbook.cells import Cell, Sheet
 from exam_desk.workbook.values import Way, bare
 

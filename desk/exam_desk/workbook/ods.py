@@ -4,7 +4,7 @@ import re
 import zipfile
 from xml.etree.ElementTree import Element
 
-from exam_desk.trouble import Trouble
+from exam_desk.office import Trouble
 from exam_desk.workbook.cells import MOST_SHEETS, PASSWORD, Book, Budget, Cell, Parts, Sheet, local, whole_day
 from exam_desk.workbook.numberformats import clock_text, number_cell
 

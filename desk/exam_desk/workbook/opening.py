@@ -9,7 +9,7 @@ import sys
 from collections import Counter
 
 from exam_desk import files
-from exam_desk.trouble import Trouble
+from exam_desk.office import Trouble
 from exam_desk.workbook.cells import (MOST_FILE, NO_WORKBOOK, OPEN_AND_SAVE, PASSWORD, Book, Budget, Cell, Sheet,
                                       unpacked)
 

@@ -11,7 +11,7 @@ from collections.abc import Iterable, Iterator, Mapping, Sequence
 from typing import NamedTuple
 
 from exam_desk import files, mistakes
-from exam_desk.trouble import Trouble
+from exam_desk.office import Trouble
 from exam_desk.workbook.cells import Book, Cell, Sheet, place_name
 from exam_desk.workbook.headers import KINDS, WITHIN, Header, find_header, folded, possible_headers
 from exam_desk.workbook.opening import ask_child, open_book

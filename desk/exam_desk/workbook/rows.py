@@ -7,7 +7,7 @@ from dataclasses import replace
 from typing import NamedTuple
 
 from exam_desk import files
-from exam_desk.trouble import Trouble
+from exam_desk.office import Trouble
 from exam_desk.workbook.cells import MOST_MERGED, Cell, Sheet, letters_of, place_name
 from exam_desk.workbook.headers import HEADER_WORDS, MARKED, Given, find_header, folded, seen, text_cells
 from exam_desk.workbook.tables import Headed

@@ -6,7 +6,7 @@ import re
 import zipfile
 from xml.etree.ElementTree import Element, parse
 
-from exam_desk.trouble import Trouble
+from exam_desk.office import Trouble
 from exam_desk.workbook.cells import (MOST_SHEETS, NO_WORKBOOK, OPEN_AND_SAVE, Book, Budget, Cell, Parts, Sheet,
                                       local, place_name, whole_day)
 from exam_desk.workbook.numberformats import BUILT_IN, GENERAL, MACINTOSH, WINDOWS, number_cell, text_cell
