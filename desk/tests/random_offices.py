@@ -37,6 +37,8 @@ NAMES = ["Ada Lin", "=1+1", "<script>alert(1)</script>", "\"quotes\" & 'more'", 
 STARTS = ["09:00", "09:00", "13:30", "22:45"]
 DAYS = ["2027-06-07", "2027-06-07", "2027-06-08", "2027-06-10"]
 
+LEFT = " \N{EN SPACE} present ____ \N{EN SPACE} scripts ____"
+
 
 class Seat(NamedTuple):
     """What the sheets of a session say of one member."""
@@ -224,17 +226,10 @@ class RandomOffice:
 
     def doors(self, reading, session):
         tables = collections.defaultdict(list)
-        scripts = []
         for table in Cells(page := papers.doors(reading, session)).tables:
-            if table[0][0] == "Paper":
-                scripts.append([row[:2] for row in table[1:]])
-                continue
             tables[re.search(r"\|([A-Z0-9]+), page [0-9]+ of [0-9]+\|", table[0][0])[1]].append(table)
         halls = sorted({seat.hall for seat in self.now[session].values()} - {"-"})
         equal([*tables], halls, "halls", page)
-        copies = [sorted(collections.Counter(seat.paper for seat in self.now[session].values() if seat.hall == hall)
-                         .items()) for hall in halls]
-        equal(scripts, [[[code, str(count)] for code, count in found] for found in copies], "scripts", page)
         begins = {code: (day, start) for code, day, start in reading.rows.execute("SELECT code, day, start FROM session")}
         then = collections.defaultdict(list)
         for pair, (numbers, _) in at_one_time(reading.rows, self.now).items():
@@ -254,7 +249,8 @@ class RandomOffice:
             equal([row for table in parts for row in table[2:]][:-1], wanted, "doors", page)
             last = max(self.now[session][number].finish for _, number, *_ in rows)
             copies = collections.Counter(row[2] for row in rows)
-            counted = "|".join(f"{code} {plain(self.titles[code])}: {copies[code]}" for code in sorted(copies))
+            room = LEFT if len(copies) > 1 else ""  # where each paper's scripts are counted
+            counted = "|".join(f"{code} {plain(self.titles[code])}: {copies[code]}{room}" for code in sorted(copies))
             also = [other for pair, (_, shared) in at_one_time(reading.rows, self.now).items()
                     if session in pair and hall in shared for other in {*pair} - {session}]
             equal(re.findall(r"also here from .*?: session (\w+),", parts[0][0][0]), also, "doors", page)
