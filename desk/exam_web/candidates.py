@@ -109,7 +109,7 @@ def slips(number: int | None = None) -> str:
         with at_field(("candidates.find", {}), "slips", "groups"):
             groups = files.texts_by_number(brought.stream.read(), brought.filename or "", *slip_pages.GROUP)
         g.visit.said += [("", said(line)) for line in slip_pages.beside_groups(view().reading, groups)]
-    of_one = [session for session in [request.form.get("session", "")] if session]
+    of_one = [Session(session).code for session in [request.form.get("session", "")] if session]
     choice = slip_pages.Choice(of_one, only, "codes" in request.form, bool(only or of_one), groups)
     return styled(slip_pages.page(view().reading, choice))
 

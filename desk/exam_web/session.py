@@ -181,7 +181,8 @@ def seats_csv(code: str) -> Response:
 @pages.get("/sessions/<code>/print/<sheet>")
 def sheet(code: str, sheet: str, hall: Sequence[str] = ()) -> str:
     """A sheet to print, of all halls or of some. A chart asks first how desks stand where nobody has said it."""
-    shown, halls = Session(code), hall or request.args.getlist("hall")
+    shown = Session(code)
+    halls = [shown.opening(each).hall for each in hall or request.args.getlist("hall")]
     made = SHEETS.get(sheet) or abort(404)
     try:
         return styled(made.page(view().reading, code, *([halls] if sheet in on_paper.BY_HALL else [])))

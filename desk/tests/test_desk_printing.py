@@ -27,6 +27,7 @@ class TestPrinting(DeskSchool):
             self.assertEqual(self.browser.get(f"/sessions/MON-AM/print/{sheet}"),
                              self.office(sheet, "MON-AM", *options), sheet)
         self.browser.get("/sessions/MON-AM/print/nothing", 404)
+        self.browser.get("/sessions/MON-AM/print/doors?hall=NONE", 404)
 
     def test_a_chart_wants_to_know_how_desks_stand(self):
         """At each hall in which somebody sits stands a link to its chart, which asks first; so does that of all."""
@@ -175,6 +176,7 @@ class TestPrinting(DeskSchool):
         """They are those of `office slips --order`; what that says of the file the next page says."""
         text = 'number,group\n0001051,10B\n0001000,"<i>=10A"\n0009999,10A\n'
         asked = "/candidates/slips", "/candidates", "groups"
+        self.browser.post(*asked[:2], 404, session="NONE")
         _, sheet = self.browser.send(*asked, ("forms.csv", text.encode()), status=200)
         done = self.run_office("slips", "--order", self.write("forms.csv", text))
         self.assertEqual(sheet, done.stdout)
