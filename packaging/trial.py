@@ -150,6 +150,7 @@ def installed(root, package, tries):
 
     def run(*words):
         return in_root(root, "examoffice", *words)
+    ran("mount", "-t", "proc", "proc", root / "proc")  # as on every Debian: the program has its rows from there
     sample_day(run, "/usr/share/examoffice/examples")
     tries(run, root)
     in_root(root, "root", "office", "--help")  # as root python leaves what it made of the scripts
@@ -165,13 +166,13 @@ def from_tarball(root, tarball):
     ran("tar", "-xzf", tarball.resolve(), "-C", tried, "--strip-components=1")
     (tried / "day").mkdir(mode=0o777)
     place = {"folder": "/tmp/tried/day", "path": f"/tmp/tried/bin:{ENVIRONMENT['PATH']}"}
+    ran("mount", "-t", "proc", "proc", root / "proc")
     sample_day(lambda *words: in_root(root, "root", *words, **place), "/tmp/tried/share/examoffice/examples")
 
 
 def remove(root: pathlib.Path, users: str) -> None:
     """The office outlives the package; its user does not outlive a purge, nor a `keep` of theirs the removal."""
     office = root / OFFICE / "office.db"
-    ran("mount", "-t", "proc", "proc", root / "proc")  # `keep` looks there who listens
     in_root(root, "examoffice", "office", "keep", "start", free_port())
     same(len(processes_in(root)) > 0, True, "a `keep` before the removal")
     said = in_root(root, "root", "sh", "-c", "dpkg -i /tmp/examoffice.deb 2>&1")

@@ -55,6 +55,8 @@ def run_over(office: Office, path: str, *words: str, data: bytes | None = None, 
     with starting(office), contextlib.ExitStack() as stack:
         given = None
         if data is not None:
+            if not os.path.exists("/proc/self/fd"):  # to which INPUT leads
+                raise NotStarted("/proc is not mounted, so the program can be given no rows; nothing is changed")
             given = stack.enter_context(open(os.memfd_create("import"), "w+b"))
             given.write(data)
             given.flush()
