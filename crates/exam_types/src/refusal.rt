@@ -7,7 +7,7 @@ use crate::day::Day;
 use std::alloc::{AllocError, AllocFailed};
 use thiserror::Error;
 
-/// Why a call is refused. After a refusal everything is as before.
+/// Why a call is refused. What a refused call leaves behind stands at the call.
 #[derive(Clone, Copy, Debug, PartialEq, Eq, Error)]
 pub enum Refusal {
     /// A row of an import is bad: its record, counted from 1 after the header, and its first bad column, counted from 1
