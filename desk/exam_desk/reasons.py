@@ -9,7 +9,7 @@ from collections import Counter, defaultdict
 from collections.abc import Iterator
 from typing import NamedTuple
 
-from exam_desk import facts
+from exam_desk import facts, snapshot
 from exam_desk.facts import Opening, session_row
 from exam_desk.lists import by_desk, count
 from exam_desk.reading import Member, Reading
@@ -20,7 +20,7 @@ MOST_NAMED, MOST_HALLS = 3, 5  # occupants of a full hall, halls of a reason
 MOST_LINES = 60  # that go hall by hall; in place of more, equal reasons are put together
 MOST_GROUPS, COLUMNS = 24, 118  # of candidates, each on a line of its own; letters of a line
 CLOSES, TOO_EARLY = "closes ", "closes too early"
-GRANTED_HALLS = "SELECT number, target FROM appeal WHERE session = ? AND kind = 1 AND state = 2"
+GRANTED_HALLS = f"SELECT number, target FROM appeal WHERE session = ? AND kind = 1 AND state = {snapshot.GRANTED}"
 SHEET = re.compile(  # as much of a text as is a shortage sheet
     r"(?:SHORTAGE session ([A-Z0-9-]+)\n(?:unseated ([0-9]{1,9})\n(?:halls ([0-9]{1,9}) desks ([0-9]{1,9})\n"
     r"((?:hall [A-Z0-9]+ desks [0-9]{1,9}\n)*)(?:candidates ([0-9]{1,9})\n((?:[0-9]{7}\n)*))?)?)?)?")
