@@ -102,9 +102,11 @@ class KeptSchool(contextlib.ExitStack):
         return False
 
     def change(self, chance: random.Random) -> str:
-        """A command that changes the office, or is refused since it has done so; gives what it complains of."""
+        """A command that changes the office, or is refused since it has done so; gives what it complains of, which is
+        nothing where it is done."""
         word, number = chance.choice(["withdraw", "reinstate"]), chance.choice(sorted(self.codes))
-        return self.run(word, number, "MA-1").stderr
+        done = self.run(word, number, "MA-1")
+        return done.stderr if done.returncode else ""
 
     def request(self, number: str, route: str = "seats", code: str | None = None) -> bytes:
         head = f"GET /candidates/{number}/{route} HTTP/1.1\r\nHost: x\r\nexam-code: {code or self.codes[number]}\r\n\r\n"
