@@ -5,11 +5,11 @@ ghost use Rattle.exam_send.specs.Sending.{AppendsPart};
 
 use std::io::Write;
 
-/// A write failed, or the writer took no byte.
+/// A write failed, also one that was interrupted, or the writer took no byte.
 #[derive(Clone, Copy, Debug, PartialEq, Eq)]
 pub struct WriteFailed;
 
-/// Writes `these`, and then `those`. After a failure a beginning of them, but not all, is written.
+/// Writes `these`, and then `those`. After a failure a beginning of them, but not all, is written. Does not flush.
 pub fn send_both<W: Write>(writer: &mut W, these: &[u8], those: &[u8]) -> Result<(), WriteFailed>
     ensures ok { OnOk result
         (Appends (W.contents writer.old) (W.contents writer.new) (these.now ++ those.now)) }
@@ -21,7 +21,7 @@ pub fn send_both<W: Write>(writer: &mut W, these: &[u8], those: &[u8]) -> Result
 }
 
 /// Writes all of the bytes, in as many writes as it takes. After a failure a beginning of them, but not all, is
-/// written.
+/// written. Does not flush, and does not repeat a write that was interrupted.
 pub fn send<W: Write>(writer: &mut W, bytes: &[u8]) -> Result<(), WriteFailed>
     ensures ok { OnOk result (Appends (W.contents writer.old) (W.contents writer.new) bytes.now) }
     ensures err { OnErr result (AppendsPart (W.contents writer.old) (W.contents writer.new) bytes.now) }
