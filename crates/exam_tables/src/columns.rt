@@ -30,7 +30,7 @@ pub fn text_at(row: &Row, at: usize) -> Result<&[u8], Refusal>
     }
 }
 
-/// A whole number. Refused with `BadStore` if the column holds none, or one that does not fit.
+/// A whole number of at most 4,294,967,295. Refused with `BadStore` if the column holds none.
 pub fn whole_at(row: &Row, at: usize) -> Result<u32, Refusal>
     ensures { Reads (λ n. n < 2 ^ 32) stored.whole (column row.now at) result }
 {

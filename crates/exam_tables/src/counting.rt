@@ -27,7 +27,8 @@ pub fn count_appeals(facts: &Facts, session: &SessionCode) -> usize
     count
 }
 
-/// The session's first appeal with a key from `from` on.
+/// The session's first appeal with a key from `from` on, or none. Keys are in the order of numbers, and those of one
+/// candidate in the order of references.
 pub fn first_appeal<'a>(
     facts: &'a Facts,
     session: &SessionCode,

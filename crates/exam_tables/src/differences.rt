@@ -20,7 +20,8 @@ pub struct Difference<'a, K, V> {
     pub delete: Vec<&'a K>,
 }
 
-/// What turns the old table into the new one. Refused if there is not enough memory.
+/// What turns the old table into the new one. A row is put if the old table does not have its key, or has an unequal
+/// value there. Refused if there is not enough memory.
 pub fn difference_of<'a, K: Ord, V: PartialEq>(
     alloc: Global,
     old: &'a BTreeMap<K, V>,

@@ -6,7 +6,8 @@ use exam_types::Refusal;
 use sqlite::{Error, ErrorCode};
 use sqlite_resolve::CompileError;
 
-/// The refusal for an error of the database: out of memory, a missing table or column, or another failure.
+/// The refusal for an error of the database: `NoMemory` if it ran out of memory, `BadStore` for a missing table or
+/// column, `Store` for any other error.
 pub fn refusal_of(error: Error) -> Refusal
     ensures { result ≡ refusal_of error }
 {

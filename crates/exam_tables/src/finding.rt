@@ -20,7 +20,8 @@ use sqlite::{Alter, Connection, Row};
 use std::alloc::Global;
 
 /// Reads the appeal with this key, and compares it with the given one. Refused with `BadStore` if the database shows
-/// another one or none.
+/// another one or none, or lacks the table or a column; with `NoMemory`; with `Store` if the query fails otherwise.
+/// Nothing is written, but a query that fails may undo a transaction that is open.
 pub fn confirm_appeal<S: Alter>(
     alloc: Global,
     conn: &mut Connection<S>,

@@ -22,7 +22,9 @@ use sqlite::{Alter, Connection};
 use std::alloc::Global;
 use std::collections::BTreeMap;
 
-/// The facts that the tables hold. Refused with `BadStore` if they hold none.
+/// The facts that the tables hold, with no marks if there is no table of marks. Each row has the forms of its columns;
+/// whether the rows agree with each other is not looked at. Refused as `Loads::load` says, with `BadStore` also if a
+/// row does not have these forms, or two rows have one key.
 pub fn load_facts<S: Alter>(alloc: Global, conn: &mut Connection<S>) -> Result<Facts, Refusal>
     ensures { Loading S.Store conn.old conn.new result facts_part }
 {
@@ -67,12 +69,13 @@ pub trait Loads {
 
     ghost part: { Part Self.Rows };
 
-    /// Their rows. Refused with `BadStore` if a table or a column is missing.
+    /// Their rows. Refused with `BadStore` if a table or a column is missing, with `NoMemory`, and with `Store` if a
+    /// query fails otherwise. Nothing is written, but a query that fails may undo a transaction that is open.
     fn load<S: Alter>(alloc: Global, conn: &mut Connection<S>) -> Result<Self::Rows, Refusal>
         ensures { Loading S.Store conn.old conn.new result part };
 }
 
-/// One table. Refused with `BadStore` also if its rows are those of no table.
+/// One table. Refused with `BadStore` also if a row does not have the forms of its columns, or two rows have one key.
 impl<T: StoredRows> Loads for T {
     type Rows = BTreeMap<T::Key, T::Value>;
 
@@ -86,7 +89,7 @@ impl<T: StoredRows> Loads for T {
     }
 }
 
-/// One table, or none if its rows are those of no table.
+/// One table, or none if a row does not have the forms of its columns, or two rows have one key.
 impl<T: StoredRows> Loads for Option<T> {
     type Rows = Option<BTreeMap<T::Key, T::Value>>;
 

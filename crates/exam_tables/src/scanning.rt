@@ -18,7 +18,8 @@ use sqlite::{Alter, Connection, Row, Rows};
 use std::alloc::Global;
 use std::collections::BTreeMap;
 
-/// The whole table. Refused with `BadStore` also if its rows are those of no table.
+/// The whole table. Refused as `Loads::load` says, with `BadStore` also if a row does not have the forms of its
+/// columns, or two rows have one key.
 pub fn load_rows<T: StoredRows, S: Alter>(
     alloc: Global,
     conn: &mut Connection<S>,
@@ -29,8 +30,8 @@ pub fn load_rows<T: StoredRows, S: Alter>(
     table.ok_or(Refusal::BadStore)
 }
 
-/// The whole table, or none if its rows are those of no table. In that case the query ends at the first row that shows
-/// it.
+/// The whole table, or none if a row does not have the forms of its columns, or two rows have one key. In that case the
+/// query ends at the first such row. Refused as `Loads::load` says.
 pub fn scan_table<T: StoredRows, S: Alter>(
     alloc: Global,
     conn: &mut Connection<S>,

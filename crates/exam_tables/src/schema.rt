@@ -47,7 +47,7 @@ pub fn show_rules<S: Alter>(conn: &Connection<S>)
     let _ = conn.schema();
 }
 
-/// Makes the tables in an empty database. They have no rows but the version.
+/// Makes the tables in a database that has no table, index or view. They have no rows but the version.
 pub fn create_tables<S: Alter>(tx: &mut Transaction<'_, S>) -> Result<(), Refusal>
     ensures same_reference { tx.new.conn.ghost_name ≡ tx.old.conn.ghost_name }
     ensures made { Leads IsBlank IsMade
@@ -178,7 +178,8 @@ fn is_free(schema: &Schema, name: &str) -> bool
         && schema.view_named(name).is_none()
 }
 
-/// Refuses if no statement can be run, since a failure has shut the connection or memory runs out. Reads no row.
+/// Refuses if no statement can be run, since a failure has shut the connection, a call of the disk fails or memory runs
+/// out. Reads no row.
 pub fn ask_nothing<S: Alter>(conn: &mut Connection<S>) -> Result<(), Refusal>
     ensures ok { HasCleanDisk (state S.Store conn.new)
         → OnOk result (IsUnchanged (state S.Store conn.old) (state S.Store conn.new)) }
@@ -194,8 +195,10 @@ pub fn ask_nothing<S: Alter>(conn: &mut Connection<S>) -> Result<(), Refusal>
     Ok(())
 }
 
-/// The version of the office. Refused with `BadStore`, before any query, if a table is missing or its name is that of a
-/// view, and if the table `office` holds no version.
+/// The version of the office. It is refused before any query if a table of version 1 is missing, or if the name of the
+/// table of marks is that of a view or an index: with `BadStore`, or with `NoMemory` or `Store` if no statement can be
+/// run. Otherwise it is refused as `Loads::load` says, with `BadStore` also if the rows of the table `office` are not
+/// the one row of a version.
 pub fn version_of<S: Alter>(conn: &mut Connection<S>) -> Result<Version, Refusal>
     ensures listed { OnOk result (IsTrue (lists_tables (state S.Store conn.old).now.schema)) }
     ensures unlisted { HasCleanDisk (state S.Store conn.new)

@@ -38,7 +38,8 @@ pub trait StoredRows {
         ensures made { Makes (state S.Store tx.old.conn.now) (state S.Store tx.new.conn.now) result
             (row_put form key.now value.now ∷ []) };
 
-    /// The key and the value that this row shows. Refused with `BadStore` if it is not the stored form of any.
+    /// The key and the value that this row shows. Refused with `BadStore` if it is not the stored form of any, and with
+    /// `NoMemory` only if a column is a name or a reason, which is copied.
     fn read(alloc: Global, row: &Row) -> Result<(Self::Key, Self::Value), Refusal>
         ensures read { MayRead (λ p. form.IsRow p.0 p.1) (λ p. form.row p.0 p.1) row.now result }
         ensures memory { WantsMemoryOfRow row.now result };

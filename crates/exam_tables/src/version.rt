@@ -12,6 +12,7 @@ pub struct Limits {
 /// A version of the tables.
 #[derive(Clone, Copy)]
 pub struct Version {
+    /// As the table `office` has it: 1, 2 or 3.
     pub number: u8,
     /// Whether the table of marks is among them.
     pub has_marks: bool,

@@ -46,7 +46,9 @@ pub struct Changes<'a> {
 }
 
 /// Makes the changes in one transaction or not at all. Takes no memory of its own, so only the database can run out of
-/// it. Refused with `Store` if a transaction is already open.
+/// it. Refused with `Store` if a transaction is already open; then nothing changes. After any other refusal nothing has
+/// changed as long as the connection stays open. If the failure has shut it, or the machine stops then, the database
+/// has all of the changes or none.
 pub fn save_changes<S: Alter>(
     conn: &mut Connection<S>,
     changes: &Changes<'_>,
@@ -126,7 +128,8 @@ fn write_changes<S: Alter>(
     ((timetable, (halls, (candidates, plans))), deletes).write(tx)
 }
 
-/// Makes the tables of an office without facts in an empty database, in one transaction or not at all.
+/// Makes the tables of an office without facts in a database that has no table, index or view, in one transaction or
+/// not at all. Refused with `Store` if a transaction is already open. What a refusal leaves is said at `save_changes`.
 pub fn save_empty<S: Alter>(conn: &mut Connection<S>) -> Result<(), Refusal>
     ensures made { Commits (state S.Store conn.old) (state S.Store conn.new) result
         (λ old new. IsBlank old → IsMade new) }
@@ -145,7 +148,7 @@ pub fn save_empty<S: Alter>(conn: &mut Connection<S>) -> Result<(), Refusal>
 }
 
 /// Turns the tables of an older version, whatever rows they have, into those of the newest, in one transaction or not
-/// at all.
+/// at all. Refused with `Store` if a transaction is already open. What a refusal leaves is said at `save_changes`.
 pub fn save_widened<S: Alter>(conn: &mut Connection<S>) -> Result<(), Refusal>
     ensures made { Commits (state S.Store conn.old) (state S.Store conn.new) result Widens }
     ensures failed { HasCleanDisk (state S.Store conn.new) → IsMadeHere (state S.Store conn.old).now
