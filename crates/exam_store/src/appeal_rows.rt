@@ -17,8 +17,9 @@ use sqlite::{Alter, Connection};
 use std::alloc::Global;
 use std::ops::Bound;
 
-/// The appeals of a session, by candidate and reference. Each is read from the database by its key; one that is not the
-/// office's is refused with `BadStore`.
+/// The appeals of a session, by candidate and reference. Each is read from the database by its key. That is refused
+/// with `BadStore` if the database shows another appeal than the office has, or none; with `NoMemory`; with `Store` if
+/// the query fails otherwise. After a refusal the same appeal is the next one.
 pub struct AppealRows<'s, S: Alter> {
     store: &'s mut Store<S>,
     alloc: Global,

@@ -91,10 +91,11 @@ pub fn repeated_decision_is_applied_once()
 {}
 
 /// A store that was open and kept its office stops at any moment of a command, and what the stop left is opened. Then
-/// the office that opening finds is the one before the command or the one after it; once the command has answered, it
-/// is the one after it. A stop in the middle of a call is a disk that fails from some call on, so `new` is what the
-/// call gave on such a disk, and its `may_leave` is what a crash may have left on the disk. If a failure has shut the
-/// connection before, the command is refused, and a stop leaves only what it would have left before the command.
+/// the office that opening finds is the one before the command or the one after it, also if the command was refused;
+/// once the command has replied, it is the one after it. A stop in the middle of a call is a disk that fails from some
+/// call on, so `new` is what the call gave on such a disk, and its `may_leave` is what a crash may have left on the
+/// disk. If a failure has shut the connection before, the command is refused, and a stop leaves only what it would have
+/// left before the command.
 pub fn stopped_command_is_made_or_not<S: Alter, T: Alter>()
     ensures any_moment { FindBeforeOrAfter S.Store T.Store }
     ensures answered { FindAfterAnswer S.Store T.Store }

@@ -19,7 +19,10 @@ use std::alloc::Global;
 
 /// Brings the office in the database to the newest version, in one transaction or not at all, and returns its version
 /// before and after. An office of the newest version is checked too, and nothing is written. Refused with `BadStore` if
-/// the tables of no version hold a good office of it, and with `Store` also if a transaction is already open.
+/// the tables of no version hold a good office of it, and then nothing is written; with `NoMemory`; with `Store` if a
+/// transaction is already open, or a call of the database fails. After `NoMemory` or `Store` the office has its old
+/// version as long as the connection stays open. If the failure has shut it, or the machine stops then, the office has
+/// its old version or the newest.
 pub fn migrate<S: Alter>(alloc: Global, conn: &mut Connection<S>) -> Result<(u8, u8), Refusal>
     ensures versions { IfOk result (λ v. IsVersion v.0 × (v.1 ≡ version)) }
     ensures found { HasCleanDisk (state S.Store conn.new)

@@ -42,8 +42,9 @@ pub fn save<S: Alter>(alloc: Global, conn: &mut Connection<S>, draft: &Draft) ->
     save_changes(conn, &changes)
 }
 
-/// What turns the tables of the office before a command into those of the office after it. Reads only the tables that
-/// the command may have changed in more than one row. A table that loses no row needs only puts.
+/// What turns the tables of the office before a command into those of the office after it. Walks over a table only if
+/// the draft has its old rows as a table, and otherwise looks up the rows that the draft names. A table that loses no
+/// row needs only puts.
 fn changes_of(alloc: Global, draft: &Draft) -> Result<Changes<'_>, Refusal>
     requires { IsGood draft.now.before → KeepsRows draft.now.before.relations draft.now.after.relations }
     ensures turns { IfOk result (TurnsTables draft.now.before draft.now.after) }

@@ -43,8 +43,10 @@ use std::marker::Model;
 use std::mem;
 use std::ops::Bound;
 
-/// An office whose tables are in a database. Each call refuses with `NoMemory` if there is not enough memory, and with
-/// `Store` if a call of the database failed.
+/// An office, whole in memory, and the database that has its tables. `create`, `open`, `apply` and `apply_all` use the
+/// database, and so does the source that `appeals` gives; all else is answered from memory. What needs memory is
+/// refused with `NoMemory` if there is not enough, and what uses the database with `Store` if a call of the database
+/// fails.
 pub struct Store<S: Alter> {
     conn: Connection<S>,
     office: Office,
@@ -91,9 +93,11 @@ impl Store<MemStore> {
 }
 
 impl<S: Alter> Store<S> {
-    /// Makes an empty office in an empty database, or opens the good office in it. A refusal returns the connection. It
-    /// is `OldSchema` if that office is of an older version, `BadStore` if the database holds something else, and
-    /// `Store` also if a transaction is already open.
+    /// Makes an empty office in a database that has no table, index or view, in one transaction or not at all; or opens
+    /// the good office in the database as `open` does. A refusal returns the connection. It is `OldSchema` if the
+    /// tables have the number of an older version, `BadStore` if the database holds something else, and `Store` also if
+    /// a transaction is already open. If a failure shuts the connection while the office is made, or the machine stops
+    /// then, the database has the empty office or nothing.
     pub fn create(
         alloc: Global,
         mut conn: Connection<S>,
@@ -115,9 +119,10 @@ impl<S: Alter> Store<S> {
         }
     }
 
-    /// Opens the good office in the database. A refusal returns the connection. It is `OldSchema` if the office is of
-    /// an older version, `BadStore` if the database holds no good office of this version, and `Store` also if a
-    /// transaction is already open.
+    /// Opens the good office in the database, and changes nothing. A refusal returns the connection. It is `OldSchema`
+    /// if the tables have the number of an older version, whatever their other rows are; `BadStore` if the database
+    /// holds no good office of the newest version; and `Store` also if a transaction is already open. A query that
+    /// fails may undo such a transaction.
     pub fn open(
         alloc: Global,
         mut conn: Connection<S>,
@@ -135,9 +140,10 @@ impl<S: Alter> Store<S> {
         }
     }
 
-    /// Carries out a command on a day, in one transaction, or refuses it. After a refusal the office and the tables are
-    /// as before; after `NoMemory` or `Store` a stop may still leave the command done. Over a connection that is shut
-    /// nothing is written.
+    /// Carries out a command on a day, in one transaction, or refuses it. After a refusal the office is as before, and
+    /// so are the tables as long as the connection stays open. If a failure of the database has shut it, or the machine
+    /// stops after `NoMemory` or `Store`, the tables have all of the command or nothing of it. Over a connection that
+    /// was shut before, each command is refused and nothing is written.
     pub fn apply(&mut self, alloc: Global, command: &Command, today: Day) -> Result<Reply, Refusal>
         ensures step { MayApply command.now today self.old.office result self.new.office }
         ensures kept { IsSound (state S.Store self.new.database) → Rekeeps self.old.office self.new.office
@@ -169,9 +175,10 @@ impl<S: Alter> Store<S> {
         }
     }
 
-    /// Applies commands in order, each on its day, and returns what each answers. If there is not enough memory for the
-    /// replies, it refuses before any command, and everything is as before. Whatever it answers, every session is
-    /// seated as promised.
+    /// Applies commands in order, each on its day, and returns what each answers. A command that is refused stops none
+    /// of the later ones; what it leaves is said at `apply`. The call itself refuses only with `NoMemory`, if there is
+    /// not enough memory for the replies, before any command; then everything is as before. Whatever it answers, every
+    /// session is seated as `show_seated` says.
     pub fn apply_all(
         &mut self,
         alloc: Global,
@@ -215,7 +222,8 @@ impl<S: Alter> Store<S> {
         self.office.show_order();
     }
 
-    /// One session with its plan. Refused with `UnknownSession` if there is no such session.
+    /// One session with its plan. Refused with `UnknownSession` if there is no such session, and otherwise only with
+    /// `NoMemory`.
     pub fn load_session(
         &mut self,
         alloc: Global,
@@ -236,7 +244,7 @@ impl<S: Alter> Store<S> {
     }
 
     /// What the office shows of one candidate, or none if there is no such candidate. Their desks are counted over all
-    /// who sit in their sessions.
+    /// who sit in their sessions. Refused only with `NoMemory`.
     pub fn view_candidate(&mut self, alloc: Global, number: Number) -> Result<Option<Own>, Refusal>
         ensures ok { IfOk result (λ own. option_map shown own ≡ own_of self.old.office number) }
         ensures memory { IfErr result (λ e. (e ≡ NoMemory) × IsSome (own_of self.old.office number)) }
@@ -245,7 +253,8 @@ impl<S: Alter> Store<S> {
         self.office.own(alloc, number)
     }
 
-    /// What `view_candidate` shows but for the desks. Counts nobody.
+    /// What `view_candidate` shows, but with no desk in any session, also where the candidate has a hall. Counts
+    /// nobody.
     pub fn view_without_desks(
         &mut self,
         alloc: Global,
@@ -259,8 +268,8 @@ impl<S: Alter> Store<S> {
         self.office.own_without_desks(alloc, number)
     }
 
-    /// How many appeals the session has, and a source that gives them one by one. Refused with `UnknownSession` exactly
-    /// if the office has no such session. Takes no memory, and reads nothing yet.
+    /// How many appeals the session has, and a source that gives them one by one, by candidate and reference. Refused
+    /// with `UnknownSession` exactly if the office has no such session. Takes no memory, and reads nothing yet.
     pub fn appeals(
         &mut self,
         alloc: Global,
