@@ -22,8 +22,9 @@ use exam_types::Refusal;
 use sqlite::{Alter, Connection};
 use std::alloc::Global;
 
-/// The first bad table of the database, or none if it holds a good office. Only reads. Refused with `OldSchema` if the
-/// office is of an older version, whatever is wrong with its rows.
+/// The first bad table of the database, or none if it holds a good office of the newest version. Only reads, but a
+/// query that fails may undo a transaction that is open. Refused with `OldSchema` if the tables have the number of an
+/// older version, whatever is wrong with their other rows; with `NoMemory`; and with `Store` if a query fails.
 pub fn check<S: Alter>(alloc: Global, conn: &mut Connection<S>) -> Result<Option<Table>, Refusal>
     ensures found { HasCleanDisk (state S.Store conn.new)
         → IfOk result (FindsBad (state S.Store conn.old).now) }

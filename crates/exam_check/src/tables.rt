@@ -7,7 +7,9 @@ use exam_office::Table as OfficeTable;
 /// The tables of a database: the one that has the version, and that of each table of an office.
 #[derive(Clone, Copy, Debug, PartialEq, Eq)]
 pub enum Table {
+    /// The table `office`, which has the version. It also stands for a table or a column that is missing.
     Office,
+    /// A table of facts, or that of the seats.
     Of(OfficeTable),
 }
 
