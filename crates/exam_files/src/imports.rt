@@ -14,9 +14,10 @@ use std::alloc::Global;
 /// The longest import file, in bytes.
 pub const MOST_BYTES: usize = 4_194_304;
 
-/// The rows that an import file of the kind denotes; the file is CSV (RFC 4180). Refused with `TooMany` for a file
-/// above `MOST_BYTES`, then with `BadHeader`, and then for the first record that is bad or contradicts an earlier one;
-/// records count from 1 after the header. The only other refusal is `NoMemory`; a file that is too long never gets it.
+/// The rows that an import file of the kind denotes, in the order of its records; the file is CSV (RFC 4180). Refused
+/// with `TooMany` for a file above `MOST_BYTES`, then with `BadHeader`, and then for the first record that is bad
+/// (`BadRow`) or contradicts an earlier one (`RowConflict`). Records count from 1 after the header, and blank lines are
+/// no records. The only other refusal is `NoMemory`; a file that is too long never gets it.
 pub fn read_import(alloc: Global, kind: Kind, bytes: &[u8]) -> Result<Import, Refusal>
     ensures denoted { spec.GivesUnlessMemory result (spec.import_of kind bytes.now) }
     ensures too_long { IsTrue (spec.is_too_long bytes.now) → result ≡ Err TooMany }

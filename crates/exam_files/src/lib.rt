@@ -1,4 +1,4 @@
-//! Import files and sheets, byte for byte.
+//! Import files and sheets, byte for byte. A sheet does not flush its writer.
 #![tactic(auto)]
 
 mod attendances;

@@ -32,7 +32,7 @@ pub fn take_record<R: Read>(reader: &mut Reader<R>, row: &mut ByteRecord) -> Res
     reader.read_byte_record(row).map_err(|_| Refusal::NoMemory)
 }
 
-/// The field in a column; empty if there is none.
+/// The field in a column, counted from 0; empty if there is none.
 pub fn field(fields: &ByteRecord, column: usize) -> &[u8]
     ensures { result.now ≡ spec.field column (fields_of fields.now) }
 {

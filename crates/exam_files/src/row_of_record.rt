@@ -17,8 +17,9 @@ use exam_types::{
 };
 use std::alloc::Global;
 
-/// The row that a record denotes. Refused with `BadRow`: with column 0 if the count of fields is wrong, and otherwise
-/// with the first column from the left whose text is no value.
+/// The row that the record of this number denotes. Refused with `BadRow`: with column 0 if the count of fields is
+/// wrong, and otherwise with the first column, counted from 1 from the left, whose text is no value. Otherwise refused
+/// only with `NoMemory`.
 #[tactic(auto, unfolding(crate::specs::ImportFiles::row_of))]
 pub fn row_of_record(
     alloc: Global,

@@ -9,7 +9,7 @@ use exam_types::Refusal;
 pub enum SheetFault {
     /// The sheet is refused. Nothing was written, except that `register_stream` may have written a beginning.
     Refused(Refusal),
-    /// The writer failed or took no byte. A beginning of the sheet was written.
+    /// The writer failed or took no byte. A beginning of the sheet was written, perhaps nothing.
     Write,
 }
 

@@ -11,8 +11,9 @@ use std::alloc::Global;
 use std::io::Write;
 
 /// Writes the register of a session with this count of appeals, each as soon as the source gives it. Asks for no more
-/// than the count, refuses with `BadStore` if the source ends sooner, and passes on what the source refuses. After a
-/// fault a beginning of the sheet may have been written.
+/// than the count, so rows behind it stay in the source. Refuses with `BadStore` if the source ends sooner, passes on
+/// what the source refuses, and otherwise refuses only with `NoMemory`. After any fault, a refusal too, a beginning of
+/// the sheet may have been written.
 pub fn register_stream<A: AppealSource, W: Write>(
     alloc: Global,
     session: &SessionCode,
