@@ -7,6 +7,7 @@ use exam_types::{Day, HallCode, PaperCode, SessionCode};
 /// What a line tells the program to do.
 #[derive(Drop)]
 pub enum Job<'a> {
+    /// Makes an empty office if the database has no table, index or view, and otherwise opens the office that it holds.
     Init,
     /// Brings an office of an earlier version to the newest one.
     Migrate,
@@ -16,7 +17,7 @@ pub enum Job<'a> {
     Import { kind: Kind, file: &'a str },
     /// Applies a command of the office on the day, which is the line's.
     Apply((Command, Day)),
-    /// Answers candidates over HTTP on the port.
+    /// Answers candidates over HTTP on the port, which is not 0.
     Serve { port: u16 },
     /// Prints a sheet of the session.
     Sheet { session: SessionCode, sheet: Sheet },
@@ -38,6 +39,7 @@ pub enum Sheet {
 pub struct Line<'a> {
     /// The path of the database, exactly as it was given.
     pub db: &'a str,
+    /// The day of the option `--today`.
     pub today: Day,
     pub job: Job<'a>,
     ghost dated: { IsOn today job },
@@ -48,7 +50,7 @@ pub struct Line<'a> {
 pub enum LineFault {
     /// Words that the program does not take, or a value of the wrong form.
     NotUnderstood,
-    /// A request for help, with its text.
+    /// A request for help, of the program or of a command, with its text.
     Help(String),
     /// A request for the version.
     Version,

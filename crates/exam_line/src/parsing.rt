@@ -16,7 +16,8 @@ use exam_commands::Command;
 use exam_types::{Day, Refusal};
 use std::alloc::Global;
 
-/// Reads the words of a command line, the program's name first.
+/// Reads the words of a command line, the program's name first. If they ask for help or for the version, no other fault
+/// is answered but `NoMemory`.
 pub fn parse_line<'a>(alloc: Global, words: &'a [String]) -> Result<Line<'a>, LineFault>
     ensures { spec.Answers result (map string_bytes words.entry.now) }
 {
