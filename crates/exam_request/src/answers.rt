@@ -60,7 +60,7 @@ impl Model for Answer {
 }
 
 impl Answer {
-    /// An answer 200 with this body.
+    /// An answer 200 with this body, which its head calls JSON.
     pub fn ok(body: Vec<u8>) -> Answer
         ensures { result ≡ spec.ok_told body.items }
     {
@@ -71,7 +71,8 @@ impl Answer {
         }
     }
 
-    /// The answer to a refusal or a fault by its number alone.
+    /// The answer to a refusal or a fault by its number alone. It has no day and no line `Allow`: for 13 call
+    /// `refusal`, and for 38 `other_method`.
     pub fn error(number: u16) -> Answer
         ensures { result ≡ spec.error_told number }
     {
@@ -82,7 +83,7 @@ impl Answer {
         }
     }
 
-    /// The answer to a method that is none of the route's.
+    /// The answer 405 to a method that is none of the route's.
     pub fn other_method(route: Route) -> Answer
         ensures { result ≡ spec.method_told route }
     {
@@ -94,7 +95,7 @@ impl Answer {
         }
     }
 
-    /// The answer to an accepted lodging or retraction.
+    /// The answer 200 to an accepted lodging or retraction, with the state of the appeal after it.
     pub fn state(state: AppealState) -> Answer
         ensures { result ≡ spec.state_told state }
     {
@@ -130,7 +131,7 @@ impl Answer {
         self.body.as_slice()
     }
 
-    /// The answer to a refusal.
+    /// The answer to a refusal; to `PastClosing` with its day.
     pub fn refusal(refusal: Refusal) -> Answer
         ensures { result ≡ spec.refusal_told refusal }
     {
@@ -145,7 +146,8 @@ impl Answer {
     }
 }
 
-/// Writes the answer: its head, then its body. A short body goes out in one write with its head.
+/// Writes the answer: its head, then its body. A short body is handed to the writer together with its head. After a
+/// failure a beginning of the answer, but not all, is written. Does not flush.
 pub fn write_answer<W: Write>(answer: &Answer, writer: &mut W) -> Result<(), WriteFailed>
     ensures ok { OnOk result
         (Appends (W.contents writer.old) (W.contents writer.new) (spec.answer_text answer.now)) }

@@ -32,7 +32,7 @@ pub struct Named {
 pub enum Choice {
     /// The request is not served.
     Fault(Fault),
-    /// The route has another method.
+    /// The method of the request is none of the route's.
     OtherMethod(Route),
     /// The request is refused.
     Refused(Refusal),
@@ -54,8 +54,10 @@ pub fn candidate_of(found: &Option<Found<'_>>) -> Option<Number>
     }
 }
 
-/// What is done for a request, by the candidate that it names, if there is one; `found` is what its target says.
-/// Refused if memory runs out, which only a text that is posted with the candidate's code can cause.
+/// What is done for a request, by the candidate that it names; `found` is what its target says, and `named` is none if
+/// the office does not know the candidate. A fault of the route comes first, then one of the method, then the access
+/// code, then the body or the reference. Refused only with `NoMemory`, which only a text that is posted with the
+/// candidate's code can cause.
 pub fn choose(
     alloc: Global,
     request: &Request<'_>,
@@ -90,8 +92,8 @@ fn choose_at(
     }
 }
 
-/// Compares the code first. For an unknown candidate it takes the same steps as for one whose code the request does not
-/// show, so the time of an answer does not reveal which of the two it is.
+/// Compares the code first. For an unknown candidate it takes the steps that it takes for one whose code the request
+/// does not show, so that the time of an answer tells as little as possible of which of the two it is.
 fn choose_known(
     alloc: Global,
     request: &Request<'_>,

@@ -7,15 +7,15 @@ use thiserror::Error;
 /// Why a request is not served. Nothing was done for it.
 #[derive(Clone, Copy, Debug, PartialEq, Eq, Error)]
 pub enum Fault {
-    /// The input is cut off before the head ends, or the head is not one of HTTP/1.0 or HTTP/1.1 (RFC 9112), or has
-    /// more than 32 lines, or has a bare line feed.
+    /// The input is cut off before the head ends, or the head is not one of HTTP/1.0 or HTTP/1.1 (RFC 9112), begins
+    /// with a line end, has more than 32 header lines, or has a bare line feed.
     #[error("the head is not one")]
     Head,
     /// The host is not given as the version demands (RFC 9112, section 3.2): once in HTTP/1.1, at most once in 1.0.
     #[error("the host line is missing or repeated")]
     Host,
-    /// The length of the body is not given as RFC 9112, section 6.3, demands, or the input is cut off before the body
-    /// ends.
+    /// The length of the body is given twice or not in 1 to 10 digits (RFC 9112, section 6.3), or the input is cut off
+    /// before the body ends.
     #[error("the length is not that of the body")]
     Length,
     /// The head is longer than 8,192 bytes, or the body than 4,096.
@@ -24,7 +24,7 @@ pub enum Fault {
     /// The body has a transfer coding. By RFC 9112, section 7.1, servers read chunked bodies; this one does not.
     #[error("transfer codings are not read")]
     TransferCoding,
-    /// The body is not a posting.
+    /// The body is not the JSON object of an appeal (`posted_in`).
     #[error("the body is not that of an appeal")]
     Body,
     /// There is no such route.

@@ -12,13 +12,13 @@ use crate::lines::{Lines, lines_of};
 use httparse::Status;
 use httparse::spans::{EMPTY_HEADER_SPAN, HeaderSpan, RequestSpans, Span, parse_request};
 
-/// How many lines a head may have.
+/// How many header lines a head may have.
 const MOST_LINES: usize = 32;
 
 /// How many digits the length of a body may have.
 const MOST_DIGITS: usize = 10;
 
-/// The length of the longest body.
+/// The length of the longest body, in bytes.
 pub const MOST_BODY: usize = 4_096;
 
 /// Where a head says what a request asks.

@@ -27,7 +27,7 @@ pub enum Page {
     Appeals,
 }
 
-/// The body that shows a candidate this page.
+/// The body that shows a candidate this page. Only the page of seats has desks, so for the others `own` needs none.
 pub fn page_body(alloc: Global, page: Page, own: &Own) -> Result<Vec<u8>, Refusal>
     ensures ok { IfOk result (λ body. body.items ≡ spec.page_body page (shown own.now)) }
     ensures memory { OnlyMemory result }
@@ -39,7 +39,7 @@ pub fn page_body(alloc: Global, page: Page, own: &Own) -> Result<Vec<u8>, Refusa
     }
 }
 
-/// The body that shows a candidate's seats.
+/// The body that shows a candidate's seats: an object for each of their sessions, in the order of codes.
 pub fn seats_body(alloc: Global, own: &Own) -> Result<Vec<u8>, Refusal>
     ensures ok { IfOk result (λ body. body.items ≡ spec.seats_body (shown own.now)) }
     ensures memory { OnlyMemory result }
@@ -142,7 +142,7 @@ struct MissedPaper {
     sitting: PaperCode,
 }
 
-/// The body that shows a candidate's clashes.
+/// The body that shows a candidate's clashes: an object for each live paper that they do not sit, by session and paper.
 pub fn clashes_body(alloc: Global, own: &Own) -> Result<Vec<u8>, Refusal>
     ensures ok { IfOk result (λ body. body.items ≡ spec.clashes_body (shown own.now)) }
     ensures memory { OnlyMemory result }
@@ -217,7 +217,7 @@ fn clash_value(alloc: Global, row: &MissedPaper) -> Result<Value, Refusal>
     Ok(Value::Object(clash))
 }
 
-/// The body that shows a candidate's appeals.
+/// The body that shows a candidate's appeals: an object for each, in the order of references.
 pub fn appeals_body(alloc: Global, own: &Own) -> Result<Vec<u8>, Refusal>
     ensures ok { IfOk result (λ body. body.items ≡ spec.appeals_body (shown own.now)) }
     ensures memory { OnlyMemory result }

@@ -14,10 +14,10 @@ use std::io::Read;
 use std::str;
 use thiserror::Error;
 
-/// The length of the longest head.
+/// The length of the longest head, in bytes.
 const MOST_HEAD: usize = 8_192;
 
-/// The length of the longest head and the longest body together.
+/// The length of the longest head and the longest body together, in bytes.
 pub const MOST_REQUEST: usize = MOST_HEAD + MOST_BODY;
 
 /// What ends a head.
@@ -67,8 +67,9 @@ pub struct Message {
     pub spans: HeadSpans,
 }
 
-/// Reads one request into the buffer. Reads no more once all bytes of the request are there, and does not look at what
-/// follows it. For a socket, whose bytes no contract knows, the contract holds for the bytes that it gave.
+/// Reads one request into the buffer. Reads no more once all bytes of the request are there. Bytes behind it that came
+/// in the same read are taken from the reader too, and not looked at. A read that was interrupted counts as failed. For
+/// a socket, whose bytes no contract knows, the contract holds for the bytes that it gave.
 pub fn read_request<'b, R: Read>(
     reader: &mut R,
     buffer: &'b mut [u8],

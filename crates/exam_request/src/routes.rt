@@ -14,13 +14,18 @@ use std::alloc::Global;
 /// A route of the server.
 #[derive(Clone, Copy, Debug, PartialEq, Eq)]
 pub enum Route {
+    /// `/candidates/NUMBER/seats`
     Seats,
+    /// `/candidates/NUMBER/clashes`
     Clashes,
+    /// `/candidates/NUMBER/appeals`
     Appeals,
+    /// `/candidates/NUMBER/appeals/REF`
     Appeal,
 }
 
-/// The route of a target with its number, and with its reference, which is empty if the route has none.
+/// The route of a target with its number, and with its reference, which is empty if the route has none. Both are the
+/// bytes of the target, whatever form they have.
 #[derive(Clone, Copy)]
 pub struct Found<'t> {
     pub route: Route,
@@ -81,7 +86,7 @@ fn reference_at(route: Route, bytes: &[u8], number: usize) -> &[u8]
     }
 }
 
-/// What a target says.
+/// What a target says, or none if no route fits the whole of it. `?` and `%` are bytes like any other.
 pub fn find<'t>(router: &Router<Route>, target: &'t str) -> Option<Found<'t>>
     requires { router.now ≡ table }
     ensures { option_map target_of result ≡ reading target.now }

@@ -2,8 +2,8 @@
 ghost use Rattle.std.specs.Prelude.{◌≡◌, ◌↔◌, IsTrue, length, slice_index_or};
 ghost use Rattle.std.specs.Str.{bytes_eq};
 
-/// Whether the given bytes are the secret. Compares every given byte, so the time does not depend on how many of them
-/// are right.
+/// Whether the given bytes are the secret. Compares every given byte, so that the time tells as little as possible of
+/// how many of them are right.
 pub fn is_secret(given: &[u8], secret: &[u8]) -> bool
     ensures decides { IsTrue result ↔ (given.now ≡ secret.now) }
     ensures value { result ≡ bytes_eq given.now secret.now }

@@ -4,7 +4,7 @@ ghost use Rattle.exam_request.specs.Answer.{phrase_text, status_number};
 
 use http::StatusCode;
 
-/// The status of the answer to a refusal or a fault with this number.
+/// The status of the answer to a refusal or a fault with this number; 500 for any other number.
 pub fn status_of(number: u16) -> StatusCode
     ensures { result ≡ status_number number }
 {
