@@ -39,7 +39,7 @@ pub fn page_body(alloc: Global, page: Page, own: &Own) -> Result<Vec<u8>, Refusa
     }
 }
 
-/// The body that shows a candidate's seats: an object for each of their sessions, in the order of codes.
+/// The body that shows a candidate's seats: an object for each of their sessions, by the codes of these.
 pub fn seats_body(alloc: Global, own: &Own) -> Result<Vec<u8>, Refusal>
     ensures ok { IfOk result (λ body. body.items ≡ spec.seats_body (shown own.now)) }
     ensures memory { OnlyMemory result }
@@ -217,7 +217,7 @@ fn clash_value(alloc: Global, row: &MissedPaper) -> Result<Value, Refusal>
     Ok(Value::Object(clash))
 }
 
-/// The body that shows a candidate's appeals: an object for each, in the order of references.
+/// The body that shows a candidate's appeals: an object for each, by reference.
 pub fn appeals_body(alloc: Global, own: &Own) -> Result<Vec<u8>, Refusal>
     ensures ok { IfOk result (λ body. body.items ≡ spec.appeals_body (shown own.now)) }
     ensures memory { OnlyMemory result }
