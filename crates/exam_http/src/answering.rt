@@ -22,8 +22,9 @@ use exam_types::{Day, Number, Refusal};
 use sqlite::Alter;
 use std::alloc::Global;
 
-/// Answers, on a day, what was asked. Beside what the command itself answers, memory runs out only before a command,
-/// and the answer is 22. Whatever the answer is, every session is seated as promised.
+/// Answers, on a day, what was asked. If memory runs out where no command was begun, the answer is 22 and nothing has
+/// changed. What a lodging or a retraction leaves that is answered 22, 23 or 24 is said at `Store::apply`. Whatever the
+/// answer is, every session is seated as `Store::show_seated` says.
 pub fn answer<S: Alter>(
     alloc: Global,
     store: &mut Store<S>,

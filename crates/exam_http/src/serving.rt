@@ -17,14 +17,16 @@ use thiserror::Error;
 /// Why a request was not served to the end.
 #[derive(Clone, Copy, Debug, PartialEq, Eq, Error)]
 pub enum HttpFault {
+    /// A read failed before a whole request was there. Nothing was written and nothing changed.
     #[error("a read failed")]
     Read,
+    /// The answer did not go out whole. What was done for the request is not undone.
     #[error("a write failed")]
     Write,
 }
 
 impl HttpFault {
-    /// The number that is printed for the fault.
+    /// The number that is printed for the fault, 41 or 42.
     pub fn number(self) -> u16
         ensures { result ≡ spec.http_fault_number self }
     {
@@ -35,9 +37,10 @@ impl HttpFault {
     }
 }
 
-/// Reads one request and writes one answer. After `Read` nothing was written and nothing changed. After `Write` a
-/// beginning of the answer was written, but not all, and a command that was carried out is not undone. Whatever was
-/// read and written, every session is seated as promised.
+/// Reads one request and writes one answer, which it does not flush. After `Read` nothing was written and nothing
+/// changed. After `Write` a beginning of the answer was written, but not all, and a command that was carried out is not
+/// undone. What the command leaves is said at `Store::apply`. Whatever was read and written, every session is seated as
+/// `Store::show_seated` says.
 pub fn serve_one<S: Alter, R: Read, W: Write>(
     alloc: Global,
     store: &mut Store<S>,
