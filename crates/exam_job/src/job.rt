@@ -18,9 +18,10 @@ use std::alloc::Global;
 use std::io::{Read, Write};
 use std::slice;
 
-/// Carries out the line's job over the store, and returns the exit status. The reader is the import file; the writers
-/// are standard output and standard error. `init`, `migrate`, `check` and `serve` do nothing here: the program itself
-/// does them. Whatever becomes of the line, every session is seated as promised.
+/// Carries out the line's job over the store as `carry_out` does, prints the line of a fault, and returns the exit
+/// status, `DONE` or `FAILED`. The reader is the import file; the writers are standard output and standard error.
+/// `init`, `migrate`, `check` and `serve` do nothing here: the program itself does them. Whatever becomes of the line,
+/// every session is seated as `Store::show_seated` says.
 pub fn run_job<S: Alter, R: Read, O: Write, E: Write>(
     alloc: Global,
     line: &Line<'_>,
@@ -39,8 +40,11 @@ pub fn run_job<S: Alter, R: Read, O: Write, E: Write>(
     }
 }
 
-/// Carries out the line's job over the store. After `Write` a command is carried out, although a write or the flush of
-/// its reply failed. Whatever it answers, every session is seated as promised.
+/// Carries out the line's job over the store. The reader is the import file, which only an import reads; the writer is
+/// standard output. `init`, `migrate`, `check` and `serve` do nothing here. After `Refused` and `File` the office is as
+/// before; what a refused command leaves in the database is said at `Store::apply`. After `Write` a command is carried
+/// out, although a write or the flush of its reply failed. Whatever it answers, every session is seated as
+/// `Store::show_seated` says.
 pub fn carry_out<S: Alter, R: Read, O: Write>(
     alloc: Global,
     line: &Line<'_>,

@@ -57,7 +57,8 @@ fn lodged_line(state: AppealState) -> ShortLine
     line
 }
 
-/// What a decision made of the appeal, where the appellant now sits, and how many others sit in another hall.
+/// What a decision made of the appeal, where the appellant now sits, and how many seats of others are in another hall
+/// than before. Who is moved in two sessions counts twice.
 fn decided_line(state: AppealState, hall: &Option<HallCode>, moved: usize) -> ShortLine
     ensures { result.items ≡ spec.decided_text state hall.now moved }
 {

@@ -9,8 +9,9 @@ use sqlite::{Alter, Connection};
 use std::alloc::Global;
 use std::io::Write;
 
-/// Brings the office in the database to the newest version, and prints its version before and after. After `Write` the
-/// office has the newest version, although a write or the flush of the line failed.
+/// Brings the office in the database to the newest version, and prints its version before and after. Refuses as
+/// `exam_store::migrate` does, which says what that leaves. After `Write` the office has the newest version, although a
+/// write or the flush of the line failed.
 pub fn migrate_office<S: Alter, O: Write>(
     alloc: Global,
     conn: &mut Connection<S>,

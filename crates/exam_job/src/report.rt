@@ -21,10 +21,11 @@ pub const NOT_UNDERSTOOD: u8 = 2;
 /// Why a command was not carried out, or why its line was not printed.
 #[derive(Clone, Copy, Debug, PartialEq, Eq)]
 pub enum JobFault {
+    /// The line is refused. Of a sheet of appeals a beginning may have been printed; of all else nothing was.
     Refused(Refusal),
-    /// The import file cannot be read.
+    /// The import file cannot be opened or read. Nothing has changed.
     File,
-    /// Standard output failed.
+    /// Standard output failed, perhaps after all of the text. A command is carried out all the same.
     Write,
     /// The port cannot be bound, or a connection cannot be accepted.
     Net,
@@ -49,7 +50,7 @@ impl From<SheetFault> for JobFault {
     }
 }
 
-/// Prints a line on standard output.
+/// Prints a line on standard output, and flushes it. The only fault is `Write`.
 pub fn print<O: Write>(out: &mut O, line: &[u8]) -> Result<(), JobFault>
     ensures { spec.Prints O.contents line.now out.old result out.new }
 {
@@ -73,7 +74,8 @@ pub fn flush<O: Write>(out: &mut O) -> Result<(), JobFault>
     out.flush().map_err(|_| JobFault::Write)
 }
 
-/// Prints a fault on standard error, and returns the exit status. If that fails too, only the status reports the fault.
+/// Prints a fault on standard error, without a flush, and returns the exit status, `FAILED`. If that fails too, only
+/// the status reports the fault.
 pub fn print_fault<E: Write>(fault: &JobFault, err: &mut E) -> u8
     ensures { spec.Reports E.contents (Err fault.now) err.old result err.new }
 {
@@ -82,7 +84,9 @@ pub fn print_fault<E: Write>(fault: &JobFault, err: &mut E) -> u8
     FAILED
 }
 
-/// Prints why words are no line, and returns the exit status. Help and the version go to standard output.
+/// Prints why words are no line, and returns the exit status. Help and the version go to standard output, with status
+/// 0, or 1 if that fails. All else goes to standard error: words that are not understood, with status 2, and
+/// `NoMemory`, with status 1.
 pub fn print_line_fault<O: Write, E: Write>(fault: &LineFault, out: &mut O, err: &mut E) -> u8
     ensures { spec.ReportsNoLine O.contents E.contents fault.now out.old err.old result out.new err.new }
 {
