@@ -23,7 +23,8 @@ use std::alloc::Global;
 use std::io::{Write, empty};
 
 /// Carries the line out over the database, and closes it: all that the program does with a database once it is open.
-/// Returns the exit status, and the files of the database, or why they could not be closed.
+/// Returns the exit status, or the fault, which is not printed yet; and the files of the database, or why they could
+/// not be closed. A command that was carried out stays done even if they could not be closed.
 pub fn run_database<D: Disk + Drop, O: Write, E: Write>(
     rt: &HostRuntime,
     line: &Line<'_>,

@@ -16,8 +16,9 @@ use sqlite::{Error, FileFrom, FileStore, Files, Start};
 use sqlite_disk::Disk;
 use std::io::Write;
 
-/// Carries out what the words of a command line say, the program's name first, and returns the exit status. Words that
-/// are not text are reported like words that are not understood.
+/// Carries out what the words of a command line say, the program's name first, and returns the exit status: 0, 1 or 2.
+/// If the words could not be read, `words` is the fault, which is reported. Nothing is opened unless the line is
+/// understood.
 pub fn run<S: Start, O: Write, E: Write>(
     rt: &HostRuntime,
     words: Result<Vec<String>, LineFault>,

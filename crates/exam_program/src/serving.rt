@@ -88,7 +88,8 @@ impl Write for Timed<'_> {
     }
 }
 
-/// Serves one connection after the other on the port, with the day as today. Prints a line once the port is bound.
+/// Serves one connection after the other on the port, with the day as today, also after midnight. Prints a line once
+/// the port is bound. If it cannot be bound (`Net`) or the line cannot be printed (`Write`), nobody is served.
 pub fn serve<S: Alter, O: Write, E: Write>(
     rt: &HostRuntime,
     store: &mut Store<S>,
@@ -108,8 +109,8 @@ pub fn serve<S: Alter, O: Write, E: Write>(
     serve_each(rt, store, today, &listener, err)
 }
 
-/// Serves one connection after the other, until one cannot be accepted, or until it has served as many as it may. The
-/// store changes as if requests had asked for it, and today is the day of each.
+/// Serves one connection after the other, one request of each, until one cannot be accepted (`Net`), or until it has
+/// served 4,294,967,295. The store changes as if requests had asked for it, and today is the day of each.
 pub fn serve_each<S: Alter, E: Write>(
     rt: &HostRuntime,
     store: &mut Store<S>,
