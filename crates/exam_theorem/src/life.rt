@@ -50,7 +50,7 @@ fn bring_over<S: Alter>(alloc: Global, conn: &mut Connection<S>) -> Result<(), R
 }
 
 /// Brings the office in the database to the newest version, if it is of an older one, and opens it. A refusal returns
-/// the connection.
+/// the connection. The database then has the office that it had, in its old version or in the newest.
 pub fn carry_over<S: Alter>(
     alloc: Global,
     mut conn: Connection<S>,
@@ -67,9 +67,10 @@ pub fn carry_over<S: Alter>(
     }
 }
 
-/// Carries the office in the database over, follows orders in turn, and then prints the sheet that the words ask for.
-/// A refusal returns the connection: there is no office of any version, memory has run out, or the database cannot be
-/// used.
+/// Carries the office in the database over, follows orders in turn, and then prints the sheet that the words ask for. A
+/// refusal returns the connection: there is no good office of any version, memory has run out before the first order,
+/// or the database cannot be used. Then no order was followed and nothing went out, and the database has the office
+/// that it had, in its old version or in the newest.
 pub fn live<S: Alter, O: Write>(
     alloc: Global,
     conn: Connection<S>,

@@ -35,7 +35,7 @@ pub enum Order<'o> {
 /// Why a command line was not carried out.
 #[derive(Drop)]
 pub enum LineStop {
-    /// The words are not understood.
+    /// The words are no line: they are not understood, they ask for help or for the version, or memory ran out.
     NoLine(LineFault),
     /// The line was not carried out, or what it prints was not written.
     Job(JobFault),

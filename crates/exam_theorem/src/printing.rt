@@ -29,8 +29,9 @@ pub struct EndOfDay {
     pub printed: LineEnd,
 }
 
-/// Follows orders in turn over the office in a store, and then prints the sheet that the words ask for. Refused if
-/// memory runs out before the first order. Whatever it answers, every session is seated as promised.
+/// Follows orders in turn over the office in a store, and then prints the sheet that the words ask for. Refused only
+/// with `NoMemory`, before the first order; then everything is as before. If the words ask for no sheet, nothing is
+/// printed, and `printed` is `NoLine`. Whatever it answers, every session is seated as `Store::show_seated` says.
 pub fn print_after<S: Alter, O: Write>(
     alloc: Global,
     store: &mut Store<S>,
