@@ -10,7 +10,8 @@ use std::alloc::Global;
 use std::str;
 use std::test::Fail;
 
-/// Takes a command, a request or a statement at the closed office. Gives what is printed or answered.
+/// Takes a command, a request or a statement at the closed office. Gives what is printed or answered. `check` and
+/// `serve` do nothing here.
 pub fn answer_to<S: Alter>(
     alloc: Global,
     mut conn: Connection<S>,

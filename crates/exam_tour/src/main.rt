@@ -64,7 +64,7 @@ fn run_words<S: Alter>(rt: &HostRuntime, store: &mut Store<S>, words: &[String])
     };
 }
 
-/// Carries out a command over the file that it imports, or over none.
+/// Carries out a command over the file that it imports, or over none. `migrate`, `check` and `serve` do nothing here.
 fn run_line<S: Alter>(rt: &HostRuntime, store: &mut Store<S>, line: Line<'_>) -> u8 {
     match line.job {
         // The office is open already, so only what the program prints is left.
