@@ -16,8 +16,9 @@ use exam_commands::Command;
 use exam_types::{Day, Refusal};
 use std::alloc::Global;
 
-/// Reads the words of a command line, the program's name first. If they ask for help or for the version, no other fault
-/// is answered but `NoMemory`.
+/// Reads the words of a command line, the program's name first. Unless memory runs out, help or the version is answered
+/// exactly if `clap` finds a request for it, and the line exactly if `clap` takes the words and each value has its
+/// form.
 pub fn parse_line<'a>(alloc: Global, words: &'a [String]) -> Result<Line<'a>, LineFault>
     ensures { spec.Answers result (map string_bytes words.entry.now) }
 {
