@@ -3,8 +3,8 @@
 //! In a text `$ ` begins a command of the program, a candidate's request, `sql` over the tables, or `tables`, which
 //! shows them all. If the day of a command or a request counts, it follows `on`. A request shows the candidate's access
 //! code, or the one behind `as`. The lines below are the import file, the body or the statement. The output or the
-//! answer follows `> `. What a refused command prints on the error output follows `! `, and both outputs of a command
-//! that fails otherwise follow `? `. The office is closed and opened anew before each step.
+//! answer follows `> `. What a command with the status 1 prints on the error output alone follows `! `, and both
+//! outputs of a command that ends in any other way follow `? `. The office is closed and opened anew before each step.
 //!
 //! After a command, `with room for 9` gives it an output that takes 9 bytes and then fails, and `failing after 9` gives
 //! it an import file that yields its bytes one by one, has each other read interrupted, and fails after the first 9.
