@@ -1,4 +1,5 @@
-//! The columns of a row that a query shows.
+//! The columns of a row that a query shows, counted from 0. Each reader refuses with `BadStore` if its column does not
+//! hold the stored form of such a value.
 ghost use Rattle.std.specs.Prelude.{pos, if◌then◌else◌, ◌≡◌, ◌<◌, ◌≤◌, ◌^◌, ◌↔◌, ℕ, IsTrue, IfOk, IfErr};
 ghost use Rattle.sqlite_value.specs.Order.{column};
 ghost use Rattle.sqlite_value.specs.declared.value.Value.TheVariants.{Text};
