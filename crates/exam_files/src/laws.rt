@@ -28,8 +28,8 @@ pub fn accepted_files_are_their_rows()
         → (import_of kind bytes ≡ Ok (record { kind = kind; rows = rows })) ↔ Accepts kind bytes rows }
 {}
 
-/// A refusal of an import file names the first record that is bad, with its first bad column, or the first that
-/// contradicts an earlier one. All records before it are rows that agree.
+/// `BadRow` names the first record of an import file that is bad, with its first bad column; `RowConflict` names the
+/// first one that contradicts an earlier one. All records before it are rows that agree.
 pub fn refused_files_name_their_first_bad_record()
     ensures column { (kind : Kind) (bytes : List ℕ) (number column : ℕ)
         → (import_of kind bytes ≡ Err (BadRow number column)) ↔ IsFirstBad kind bytes number column }
