@@ -28,7 +28,7 @@ pub fn tables_hold_one_office()
 {}
 
 /// A list of commands over a store has the same replies as one over an office in memory, except that memory runs out
-/// there when the store refuses a command here. So each law over lists in memory holds for a store.
+/// there when memory runs out or the database fails here. So each law over lists in memory holds for a store.
 pub fn applied_lists_are_runs()
     ensures { (done : List (Command × ℕ)) (before after : State) (replies : List (Result Reply Refusal))
         → Applies done before replies after → Run done before (map in_memory replies) after }
