@@ -13,7 +13,8 @@ use std::str;
 /// The address at which the office would serve.
 const SERVER: &str = "http://127.0.0.1:8080";
 
-/// The body of the answer to the request in the line. Whatever the answer is, every session is seated as promised.
+/// The body of the answer to the request in the line. Whatever the answer is, every session is seated as
+/// `Store::show_seated` says.
 pub fn answer_to<S: Alter>(
     alloc: Global,
     store: &mut Store<S>,
