@@ -269,7 +269,8 @@ impl<S: Alter> Store<S> {
     }
 
     /// How many appeals the session has, and a source that gives them one by one, by candidate and reference. Refused
-    /// with `UnknownSession` exactly if the office has no such session. Takes no memory, and reads nothing yet.
+    /// with `UnknownSession` exactly if the office has no such session. Takes no memory, and does not ask the database
+    /// yet.
     pub fn appeals(
         &mut self,
         alloc: Global,
