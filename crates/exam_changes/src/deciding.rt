@@ -23,11 +23,12 @@ use exam_rules::{Appeal, Facts, Seats, Status, Subject, is_live_paper, is_member
 use exam_types::{Day, Number, PaperCode, Reason, Reference, Refusal, SessionCode};
 use std::alloc::Global;
 
-/// Decides the appeal; a grant of a clash or an arrangement supersedes an earlier grant of its kind. Returns how to
-/// take this back; nothing changes if the decision is already made. Refused, in this order, for an unknown appeal; for
-/// one that is not open; from the session's day on; for a standing grant of anything but an arrangement; for a grant if
-/// the candidate is no longer a member, or has no live entry for the paper; and if there is not enough memory. After a
-/// refusal the facts are as before. It never passes a limit.
+/// Decides the appeal; a grant of a clash or an arrangement supersedes the candidate's earlier grant of its kind for
+/// the session. Returns how to take this back; nothing changes if the decision is already made. Refused, in this order,
+/// for an unknown appeal; for one that is not open; from the session's day on; for a standing grant of anything but an
+/// arrangement; for a grant if the candidate is no longer a member or, of a clash, if the paper is no live one of
+/// theirs in the session; and if there is not enough memory. After a refusal the facts are as before. It never passes a
+/// limit.
 pub fn decide(
     alloc: Global,
     facts: &mut Facts,
@@ -204,7 +205,8 @@ fn is_made(facts: &Facts, decision: &Decision, appeal: &Appeal) -> bool
     is_decided(decision.outcome, &decision.answer, marked, &appeal.status)
 }
 
-/// The session of the appeal that the command decides, unless the decision is already made; none for other commands.
+/// The session of the appeal that the command decides, from the facts before it. None if the decision is already made,
+/// if there is no such appeal, and for other commands.
 pub fn newly_decided(facts: &Facts, command: &Command) -> Option<SessionCode>
     ensures { result ≡ next.newly_decided (relations_of facts.now) command.now }
 {

@@ -19,9 +19,10 @@ use exam_rules::{Entry, Facts, Opening};
 use exam_types::{HallCode, Refusal, SessionCode};
 use std::alloc::Global;
 
-/// Adds the rows of an import. Returns how to take them back, and what the import answers. Refused for the first row,
-/// in the order of the file, that refers to what does not exist, and if there is not enough memory. After a refusal the
-/// facts are as before. Tests no limit.
+/// Adds the rows of an import with new keys, and replaces the rows of present keys; an entry that exists stays as it
+/// is. Returns how to take this back, and what the import answers. Refused for the first row, in the order of the file,
+/// that refers to what does not exist, and if there is not enough memory. After a refusal the facts are as before.
+/// Tests no limit.
 pub fn import_rows(
     alloc: Global,
     facts: &mut Facts,

@@ -12,8 +12,8 @@ use exam_rules::{Appeal, Facts, Status};
 use exam_types::{Number, Reference, Refusal};
 
 /// Retracts the appeal, unless it is retracted already, and returns how to take this back. Refused for an unknown
-/// appeal, for one that is not open, and if there is not enough memory for a copy of its reason. After a refusal the
-/// facts are as before.
+/// appeal, for one that has been decided, and if there is not enough memory for a copy of its reason. After a refusal
+/// the facts are as before.
 pub fn retract(facts: &mut Facts, number: Number, reference: Reference) -> Result<Undo, Refusal>
     ensures ok { OnOk result (relations_of facts.new
         ≡ spec.with_retraction (relations_of facts.old) number reference) }

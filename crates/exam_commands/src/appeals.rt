@@ -19,6 +19,7 @@ pub fn is_same_kind(subject: &Subject, other: &Subject) -> bool
     }
 }
 
+/// Whether both are of one kind and name the same hall, the same paper, or the same needs and extra time.
 pub fn is_same_subject(subject: &Subject, other: &Subject) -> bool
     ensures { result ≡ spec.same_subject subject.now other.now }
 {

@@ -7,12 +7,14 @@ use std::{fmt, str};
 /// A command to the office.
 #[derive(Drop)]
 pub enum Command {
+    /// Adds a row with a new key, and replaces the row of a present key. An entry that exists stays as it is, live or
+    /// withdrawn.
     Import(Import),
     /// Withdraws the candidate's entry for the paper.
     Withdraw(Number, PaperCode),
     /// Makes the candidate's withdrawn entry for the paper live again.
     Reinstate(Number, PaperCode),
-    /// Closes the hall for the session.
+    /// Closes the hall for the session: takes its opening away.
     CloseHall(SessionCode, HallCode),
     /// Lodges an appeal.
     Lodge(Lodging),
@@ -74,8 +76,8 @@ pub enum Reply {
     /// The state of the appeal; pending if it is new.
     Lodged(AppealState),
     Retracted,
-    /// The state of the appeal, the appellant's hall in its session if they sit, and how many others now sit in another
-    /// hall than before.
+    /// The state of the appeal, the appellant's hall in its session if they sit in it, and how many others sat in a
+    /// session before and now sit in another hall, over all sessions. One who moves in two sessions counts twice.
     Decided {
         state: AppealState,
         seat: Option<HallCode>,

@@ -52,7 +52,8 @@ impl Import {
     }
 
     /// Appends a row. A row with the key of an earlier one but other contents is refused as a conflict; the conflict
-    /// names the row's place, counted from 1. After a refusal the import is as it was.
+    /// names the row's place, counted from 1. Any other row is refused only if there is not enough memory. After a
+    /// refusal the import is as it was.
     pub fn push(&mut self, row: Row) -> Result<(), Refusal>
         requires kind { spec.kind_of row ≡ self.old.kind }
         requires room { length self.old.rows < spec.most_rows }
@@ -109,7 +110,7 @@ impl Import {
         Some(&self.rows[*place])
     }
 
-    /// Whether the row at the place is the first with its key.
+    /// Whether the first row with the key of this one is at the place, counted from 0.
     pub fn is_first(&self, place: usize, row: &Row) -> bool
         ensures { result ≡ option_map_or (λ first. first == place)
             (spec.place_of row.now self.now.rows) false }

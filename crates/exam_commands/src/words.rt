@@ -10,7 +10,7 @@ use crate::command::AppealState;
 use exam_rules::{Arrangement, Status, Subject};
 use exam_types::Refusal;
 
-/// What an appeal asks for, as one word.
+/// The kind of what an appeal asks for: `hall`, `clash` or `arrangement`.
 pub fn kind_word(subject: &Subject) -> &'static [u8]
     ensures { result.now ≡ spec.kind_word subject.now }
 {
@@ -21,7 +21,7 @@ pub fn kind_word(subject: &Subject) -> &'static [u8]
     }
 }
 
-/// The state of an appeal, as one word.
+/// The state of an appeal, as one word. A pending one is `open`.
 pub fn state_word(state: AppealState) -> &'static [u8]
     ensures value { result.now ≡ spec.state_word state }
     ensures short { length result.now ≤ 10 }
@@ -42,7 +42,8 @@ pub fn status_word(status: &Status) -> &'static [u8]
     state_word(state_of(status))
 }
 
-/// Appends what an appeal asks for: the hall, the paper, or the needs and the extra time.
+/// Appends what an appeal asks for: the hall, the paper, or the needs, a space and the extra time in percent. Refused
+/// if there is not enough memory; the vector then stays as it was.
 pub fn write_subject(subject: &Subject, out: &mut Vec<u8>) -> Result<(), Refusal>
     ensures ok { OnOk result (out.new.items ≡ out.old.items ++ spec.subject_text subject.now) }
     ensures err { OnErr result (out.new.items ≡ out.old.items) }
@@ -69,7 +70,7 @@ fn write_arrangement(asked: Arrangement, out: &mut Vec<u8>) -> Result<(), Refusa
     Ok(())
 }
 
-/// Appends the same, or only a part of it if there is not enough memory.
+/// Appends the needs, a space and the extra time, or only a part of them if there is not enough memory.
 fn write_parts(asked: Arrangement, out: &mut Vec<u8>) -> Result<(), Refusal>
     ensures ok { OnOk result (out.new.items ≡ out.old.items ++ spec.arrangement_text asked) }
     ensures err { OnErr result (StartsWith out.new.items out.old.items) }

@@ -33,7 +33,7 @@ pub fn good_office_is_seated()
     ensures { (office : State) (s : Code) → IsGood office → AreInOrder office.relations → IsSeated office s }
 {}
 
-/// A command on a day has one result: one office leads to one reply and one office.
+/// A command on a day has one result, unless memory runs out: one office leads to one reply and one office.
 pub fn one_step_has_one_result()
     ensures { (done : Command) (today : ℕ) (before one other : State) (first second : Result Reply Refusal)
         → Step done today before first one → Step done today before second other
@@ -145,8 +145,8 @@ pub fn untouched_session_stays()
         × SamePlan (plan_of after.seats s) (plan_of before.seats s) }
 {}
 
-/// No command takes a row away from the facts, except that closing a hall takes away its one opening. So nothing that
-/// was imported is ever deleted. Every `Office` is good (`Office::show_good`).
+/// No command takes a row away from the facts, except that closing a hall takes away its one opening. Rows may be
+/// replaced. Every `Office` is good (`Office::show_good`).
 pub fn only_closing_takes_a_row_away()
     ensures { (done : Command) (today : ℕ) (before after : State) (reply : Reply)
         → IsGood before → Step done today before (Ok reply) after

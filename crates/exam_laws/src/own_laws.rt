@@ -16,9 +16,9 @@ ghost use Rattle.exam_commands.specs.Own.{OwnRows, OwnSessionRow, own_of};
 ghost use Rattle.exam_commands.specs.State.{State};
 ghost use Rattle.exam_commands.specs.Steps.{Step};
 
-/// Two offices that show a candidate the same give the same answer to a lodging of theirs, and show them the same after
-/// it: both accept it, or both refuse it for the same reason, whatever they hold about others. So lodging shows a
-/// candidate nothing about others beyond what they are shown already.
+/// Two offices that show a candidate the same give the same answer to a lodging of theirs on one day, and show them the
+/// same after it: both accept it, or both refuse it for the same reason, whatever they hold about others. So lodging
+/// shows a candidate nothing about others beyond what they are shown already.
 pub fn own_rows_decide_a_lodging()
     ensures refusal { (lodging : Lodging) (day : ℕ) (one other : State)
         → IsGood one → IsInOrder one → IsGood other → IsInOrder other
@@ -76,8 +76,8 @@ pub fn lodging_and_retracting_show_others_nothing()
         → own_of after number ≡ own_of before number }
 {}
 
-/// What the office shows of a candidate leaves out no session: it has as many rows as there are sessions of which the
-/// candidate is a member, one for each of them, by code.
+/// What the office shows of a candidate leaves out no session: it has as many rows as there are sessions that the
+/// candidate is a member of, one for each of them, by code.
 pub fn own_rows_show_each_session()
     ensures rows { (office : State) (number : ℕ) (own : OwnRows) → own_of office number ≡ Some own
         → map (λ (row : OwnSessionRow). row.session) own.sessions

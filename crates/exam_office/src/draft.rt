@@ -28,7 +28,8 @@ use std::marker::Model;
 /// it and taking it back take no memory, so neither can fail.
 #[derive(Drop)]
 pub struct Draft {
-    /// The part of the office that the command reads, after the command. It has no plans if the command moves nobody.
+    /// The part of the office that the command reads, after the command. It has no plans if the command lodges or
+    /// retracts an appeal.
     part: Part,
     /// The seats: those of the new plans are in, and those of the old plans are not yet taken away.
     seats: Seats,
@@ -70,7 +71,7 @@ impl Draft {
         }
     }
 
-    /// Carries out a lodging or a retraction. It moves nobody and reads one seat, so no plan is copied.
+    /// Carries out a lodging or a retraction. It moves nobody and reads at most one seat, so no plan is copied.
     fn of_office(
         alloc: Global,
         office: Office,
@@ -206,7 +207,7 @@ fn moves_nobody(command: &Command) -> bool
 }
 
 /// Carries out a command on a day over the part of an office that it reads, and puts the new plans among the seats of
-/// the office. After a refusal everything is as before.
+/// the office. After a refusal the seats are as before, and so are the facts and the plans of the part.
 fn step_office(
     alloc: Global,
     part: &mut Part,

@@ -1,4 +1,4 @@
-//! The commands of the office, and what it shows of a session.
+//! The commands of the office, and what it shows of a session and of a candidate.
 #![tactic(auto)]
 
 mod draft;

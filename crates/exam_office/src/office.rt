@@ -97,8 +97,8 @@ impl Office {
     }
 
     /// The candidate with the number, with their sessions and their appeals, or none. The time depends on their own
-    /// rows and on how many sit in their sessions, since their desks are counted. Takes no memory for an unknown
-    /// number.
+    /// rows, on how many sit in their sessions, and on the appeals of those who sit in their halls, since their desks
+    /// are counted. Takes no memory for an unknown number.
     pub fn own(&self, alloc: Global, number: Number) -> Result<Option<Own>, Refusal>
         ensures ok { IfOk result (λ own. option_map shown own ≡ own_of self.now number) }
         ensures memory { IfErr result (λ e. (e ≡ NoMemory) × IsSome (own_of self.now number)) }

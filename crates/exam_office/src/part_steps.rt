@@ -35,7 +35,8 @@ use std::mem;
 
 /// Carries out a command on a day over a part that agrees with a good office on what the command reads, or refuses it.
 /// The reply is that of `step` over that office, and the office with the part put back is the office after `step`. The
-/// part can take the step back. After a refusal it is as before.
+/// part can take the step back, and the command can be carried out again then. After a refusal the facts and the plans
+/// of the part are as before, and the command can be tried again.
 pub fn step_part(
     alloc: Global,
     part: &mut Part,
@@ -59,7 +60,7 @@ pub fn step_part(
     step_listed(alloc, part, command, today)
 }
 
-/// Does this for a part whose lists and sessions are made.
+/// Does what `step_part` does, for a part whose lists and sessions are made.
 fn step_listed(
     alloc: Global,
     part: &mut Part,
@@ -273,7 +274,7 @@ fn next_plans(
     }
 }
 
-/// The plans after a grant, with the appellant seated first; none if the decision is no grant.
+/// The repaired plans after a grant, with the first turn for the appellant; none if the decision is no grant.
 fn granted_plans(
     alloc: Global,
     facts: &Facts,

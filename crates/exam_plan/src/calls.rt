@@ -12,8 +12,8 @@ use crate::{contest, keeping, numbering, turns};
 use exam_types::Refusal;
 use std::alloc::Global;
 
-/// Puts out who has no fitting hall or no desk: first those whose hall does not fit, then, in a hall with
-/// more occupants than desks, all but the least.
+/// Puts out first those whose hall does not fit. Then, in a hall with more occupants than desks, as many stay as it has
+/// desks: those with the least indices. Refuses nothing.
 pub fn keep_lawful(problem: &Problem, mut plan: Plan) -> Result<Plan, Refusal>
     requires { IsPlan problem.now plan.items }
     ensures plan { IfOk result (λ new. IsPlan problem.now new.items) }
@@ -28,9 +28,9 @@ pub fn keep_lawful(problem: &Problem, mut plan: Plan) -> Result<Plan, Refusal>
     Ok(plan)
 }
 
-/// Gives each unseated candidate one turn, the first candidate first and then numbers rising: a turn moves
-/// everybody along the least chain to a free desk, where there is a chain. Beside the plan there are the dead
-/// halls: those that fit the candidates that some best plan leaves out, turn by turn, and rising for each turn.
+/// Gives each unseated candidate one turn: `first` before all others, if it is given, and the others by rising index. A
+/// turn moves everybody along the least chain to a free desk, if there is a chain. Returns the plan and the dead halls:
+/// those that fit any candidate whom some best plan leaves out, turn by turn, and rising within a turn.
 pub fn sweep_dead(
     alloc: Global,
     problem: &Problem,
@@ -87,7 +87,8 @@ pub fn sweep(
     Ok(swept)
 }
 
-/// The candidates that some best plan leaves out, with all halls that fit any of them.
+/// How many candidates have no desk, and the candidates whom some best plan leaves out, with all halls that fit any of
+/// them.
 pub fn shortage(alloc: Global, problem: &Problem, plan: &Plan) -> Result<Shortage, Refusal>
     requires plan { IsPlan problem.now plan.now.items }
     requires best { IsBest (seating_of problem.now) (plan_at plan.now.items) }
@@ -107,7 +108,8 @@ pub fn shortage(alloc: Global, problem: &Problem, plan: &Plan) -> Result<Shortag
     })
 }
 
-/// The desk number of each candidate who is seated.
+/// For each candidate, by index, the number of their desk in their hall: one more than the occupants of the hall with a
+/// lesser rank. None for an unseated candidate.
 pub fn desks(alloc: Global, problem: &Problem, plan: &Plan) -> Result<Vec<Option<u32>>, Refusal>
     requires { IsPlan problem.now plan.now.items }
     ensures numbers { IfOk result (λ numbers. numbers.items ≡ desk_numbers problem.now plan.now.items) }

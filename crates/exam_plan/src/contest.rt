@@ -39,7 +39,8 @@ fn spread(problem: &Problem, plan: &[Option<usize>], marked: HallSet) -> HallSet
     next
 }
 
-/// The halls that fit a contested candidate.
+/// The halls that fit an unseated candidate, or an occupant of one of these halls. If the plan is best, they are the
+/// halls that fit a contested candidate.
 pub fn contested_halls(problem: &Problem, plan: &[Option<usize>]) -> HallSet
     requires { length plan.now ≡ length problem.now.fit }
     ensures drawn { (h : ℕ) → IsMarked (holds result) h

@@ -84,7 +84,7 @@ impl HallSet {
         (self.word_of(hall) >> (hall % 128)) & 1 != 0
     }
 
-    /// The set with one more hall.
+    /// The set with the hall in it.
     pub fn with(self, hall: usize) -> HallSet
         requires { hall < most_halls }
         ensures { (h : ℕ) → holds result h ≡ (nat_eq h hall || holds self h) }
@@ -160,7 +160,7 @@ impl HallSet {
         self.common(other).first().is_some()
     }
 
-    /// The least hall of the set.
+    /// The least hall of the set, or none if the set is empty.
     pub fn first(self) -> Option<usize>
         ensures { MatchOption result
             ((h : ℕ) → holds self h ≡ false)
@@ -175,7 +175,7 @@ impl HallSet {
         }
     }
 
-    /// The least hall of the set, and the set of the others.
+    /// The least hall of the set and the set of the others, or none if the set is empty.
     pub fn split_first(self) -> Option<(usize, HallSet)>
         ensures { MatchOption result
             ((h : ℕ) → holds self h ≡ false)

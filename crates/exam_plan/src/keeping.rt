@@ -29,7 +29,7 @@ pub fn put_out_unfit(problem: &Problem, plan: &mut [Option<usize>])
     }
 }
 
-/// Puts out those with as many lesser candidates in their hall as it has desks.
+/// Puts out those in whose hall at least as many lesser candidates sit as it has desks.
 pub fn put_out_crowded(problem: &Problem, plan: &mut [Option<usize>])
     requires whole { length plan.old ≡ length problem.now.fit }
     requires exist { All (λ place. IfSome place (λ h. h < length problem.now.desk_counts)) plan.old }

@@ -26,8 +26,8 @@ pub fn some_plan_is_best()
     ensures { (p : problems.Problem) → IsProblem p → (q : Plan ℕ ℕ) × IsBest (seating_of p) q }
 {}
 
-/// The contested candidates, with all halls that fit any of them, are a certificate of every best plan: there
-/// are such lists, and any two lists that rise and name exactly these are it.
+/// The contested candidates, with all halls that fit any of them, are a certificate of every best plan. There are such
+/// lists, and any two rising lists that name exactly these candidates and these halls are a certificate.
 pub fn contested_are_a_certificate()
     ensures some { (p : problems.Problem) → IsProblem p
         → (candidates : List ℕ) × (halls : List ℕ)
@@ -69,7 +69,7 @@ pub fn best_plan_is_its_repair()
         → IsRepair (seating_of p) first q r → SamePlan r q }
 {}
 
-/// A desk number is at most the desks of the hall.
+/// In a lawful plan a desk number is at most the number of desks of the hall.
 pub fn desk_number_is_within_the_hall()
     ensures { (p : problems.Problem) (q : Plan ℕ ℕ) (h c n : ℕ) → IsLawful (seating_of p) q → q c ≡ Some h
         → desk_number (seating_of p) (ranks_before p) q c ≡ Some n → n ≤ (seating_of p).desks h }

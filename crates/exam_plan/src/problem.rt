@@ -67,8 +67,8 @@ fn sets_of_masks(alloc: Global, masks: &[Mask]) -> Result<Vec<HallSet>, Refusal>
 }
 
 impl Problem {
-    /// The problem with these desks in each hall, these fitting halls of each candidate, and these places
-    /// of the candidates in the order of desks.
+    /// The problem with these desks in each hall, these fitting halls of each candidate, rising, and these places of
+    /// the candidates in the order of desks.
     pub fn new(
         alloc: Global,
         desks: Vec<u32>,

@@ -22,7 +22,7 @@ pub struct Tally {
     high: Digits,
 }
 
-/// Counts each hall of the word once more, if it was counted less often than there are candidates.
+/// Counts each hall of the word once more, if it was counted at most as often as a problem may have candidates.
 fn count_word(digits: &mut Digits, word: u128)
     requires { length digits.old ≡ digit_count }
     ensures whole { length digits.new ≡ digit_count }

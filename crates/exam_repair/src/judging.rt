@@ -20,7 +20,7 @@ use exam_rules::{Facts, Seats, SessionLists, session_lists};
 use exam_types::{Refusal, SessionCode};
 use std::alloc::Global;
 
-/// The first table that is not good, or none if these facts and plans are a good office.
+/// The first table, in the order of `Table`, that is not good, or none if these facts and plans are a good office.
 pub fn first_bad_table(
     alloc: Global,
     facts: &Facts,

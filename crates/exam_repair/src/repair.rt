@@ -20,8 +20,8 @@ use exam_types::{Number, Refusal, SessionCode};
 use std::alloc::Global;
 use std::collections::BTreeMap;
 
-/// The plans of these sessions, each repaired; `first` is seated first if they are a member. Nobody is seated in other
-/// sessions.
+/// The plans of these sessions, each repaired. In each session that `first` is a member of they have the first turn.
+/// Nobody is seated in other sessions.
 pub fn repaired_among(
     alloc: Global,
     facts: &Facts,

@@ -24,7 +24,8 @@ use std::collections::BTreeSet;
 type Codes = BTreeSet<SessionCode>;
 
 /// The sessions that a command touches, over the facts before it, codes rising. An accepted command leaves every other
-/// session as it is. A session that does not exist is among them only if the command imports it.
+/// session its members, fits, desks and plan. A session that does not exist is among them only if the command imports
+/// it.
 pub fn touched(alloc: Global, facts: &Facts, command: &Command) -> Result<Vec<SessionCode>, Refusal>
     ensures rising { IfOk result (λ codes. IsStrictlySortedBy code_cmp codes.items) }
     ensures exact { IfOk result (λ codes. (s : Code)

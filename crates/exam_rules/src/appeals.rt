@@ -47,7 +47,7 @@ pub fn appeals_of<'a>(facts: &'a Facts, number: Number) -> OwnRows<'a, Reference
     OwnRows::new(number, facts.appeals.range((number, least)..))
 }
 
-/// Whether the candidate has at most `most` appeals.
+/// Whether the candidate has at most `most` appeals, in whatever state.
 pub fn has_at_most(facts: &Facts, number: Number, most: usize) -> bool
     ensures { result ≡ nat_le (spec.appeal_count (relations_of facts.now) number) most }
 {

@@ -12,7 +12,8 @@ use std::mem::replace;
 /// A list for each session; it is empty if the map has none.
 pub type BySession<T> = BTreeMap<SessionCode, Vec<T>>;
 
-/// Appends to the session's list.
+/// Appends to the session's list. Refused if there is not enough memory; the contract does not say what the lists are
+/// then.
 pub fn append_by_session<T: Copy + Drop>(
     alloc: Global,
     lists: &mut BySession<T>,

@@ -17,7 +17,8 @@ use std::alloc::Global;
 /// What the order of desks compares: the sitting paper, and then the number.
 pub type DeskKey = (Option<PaperCode>, Number);
 
-/// The key of the candidate. `entrants` are the members of the session; for a member it reads no entry.
+/// The key of the candidate. `entrants` are the members of the session. For a member it reads at most one entry: that
+/// for the paper of a granted clash appeal.
 pub fn desk_key_among(
     facts: &Facts,
     entrants: &[Entrant],

@@ -214,8 +214,8 @@ impl SessionLists {
         let _ = exchange(&mut self.members, session, list);
     }
 
-    /// Removes the hall from the session's list. Returns the list as it was, which `put_halls` puts back. The lists are
-    /// then those of the facts without the hall's opening for the session. After a refusal they are as they were.
+    /// Removes the hall from the session's list. So the lists are those of the facts without the hall's opening for the
+    /// session. Returns the list as it was, which `put_halls` puts back. After a refusal the lists are as they were.
     pub fn close(
         &mut self,
         alloc: Global,
@@ -238,8 +238,8 @@ impl SessionLists {
         Ok(exchange(&mut self.halls, &session, list))
     }
 
-    /// Lists the open halls of all sessions again, after openings and nothing else that the lists show have changed.
-    /// Returns the lists of halls as they were. After a refusal the lists are as they were.
+    /// Lists the open halls of all sessions again, after the openings and no other facts have changed. Returns the
+    /// lists of halls as they were. After a refusal the lists are as they were.
     pub fn relist_halls(
         &mut self,
         alloc: Global,

@@ -167,7 +167,8 @@ pub fn finish_by_entries(facts: &Facts, session: &SessionCode, number: Number) -
     finish_beside(facts, row, sat, &arrangement)
 }
 
-/// When a member ends who sits this paper under this arrangement in a session with this row.
+/// When a member ends who sits this paper under this arrangement in a session with this row; none if no paper is sat,
+/// or there is no such paper.
 pub fn finish_beside(
     facts: &Facts,
     row: &Session,

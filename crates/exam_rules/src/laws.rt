@@ -40,9 +40,9 @@ pub fn certificates_by_name()
         (map (number_at r s) candidates) (map (hall_at r s) halls) }
 {}
 
-/// The desk number of a seated candidate is at most the number of desks of the hall, and two candidates in a hall have
-/// different ones.
-/// Within the limits of an office no session has more than 4,096 members.
+/// In a lawful plan the desk number of a seated candidate is at most the number of desks of the hall. Two candidates in
+/// a hall have different ones if the session has at most 4,096 members.
+/// Within the limits of an office no session has more.
 pub fn desks_are_of_their_own()
     ensures within { (r : Relations) (s : Code) (q : Plan ℕ Code) (c n : ℕ) (h : Code) → ListsRise r s
         → IsLawful (seating r s) q → q c ≡ Some h → desk_number (seating r s) (comes_before r s) q c ≡ Some n

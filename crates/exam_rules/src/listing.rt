@@ -25,7 +25,7 @@ pub struct Entrant {
     pub paper: PaperCode,
 }
 
-/// The members and the open halls of each session.
+/// The members, by number, and the open halls, by code, of each session.
 #[derive(Drop)]
 pub struct SessionLists {
     pub members: BySession<Entrant>,
@@ -232,7 +232,7 @@ impl SessionLists {
         self.members_of(session).len()
     }
 
-    /// The halls opened for the session.
+    /// The halls opened for the session, by code.
     pub fn halls_of(&self, session: &SessionCode) -> &[HallCode]
         ensures { result.now ≡ listing.listed self.now.halls.entries session.now }
     {
@@ -240,8 +240,8 @@ impl SessionLists {
     }
 }
 
-/// What [`sitting_by_entries`] finds for the candidate. `entrants` are the members of the session; for a member it
-/// reads no entry.
+/// What [`sitting_by_entries`] finds for the candidate. `entrants` are the members of the session. For a member it
+/// reads at most one entry: that for the paper of a granted clash appeal.
 pub fn sitting_among(
     facts: &Facts,
     entrants: &[Entrant],

@@ -29,7 +29,8 @@ pub struct ListedProblem {
     pub problem: Problem,
 }
 
-/// For each of these candidates of a session, the place of their hall; none if it is not listed.
+/// For each of these candidates the place, among `halls`, of the hall in which they sit in the session; none if they do
+/// not sit, or their hall is not among these.
 pub fn stored_plan(
     alloc: Global,
     numbers: &[Number],
@@ -69,7 +70,8 @@ fn place_of_hall(halls: &[HallCode], hall: &HallCode) -> Option<usize>
     halls.iter().position(|open| *hall == *open)
 }
 
-/// Adds the seats of a plan by indices.
+/// Adds the seats of a plan by indices to seats that have none in the session. Refused if there is not enough memory;
+/// the contract does not say what the seats are then.
 pub fn write_plan(
     session: &SessionCode,
     numbers: &[Number],
@@ -114,7 +116,8 @@ fn add_place(
     }
 }
 
-/// Seats a candidate.
+/// Seats a candidate in the hall, in place of the seat that they have in the session, if any. Refused if there is not
+/// enough memory; the contract does not say what the seats are then.
 pub fn add_seat(
     seats: &mut Seats,
     session: &SessionCode,

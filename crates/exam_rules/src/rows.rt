@@ -63,7 +63,8 @@ pub enum Subject {
     Arrangement(Arrangement),
 }
 
-/// The state of an appeal, with the reason of its decision once it is decided. `Pending` is printed `open`.
+/// The state of an appeal, with the reason of its decision once it is decided; a superseded grant keeps its reason.
+/// `Pending` is printed `open`.
 #[derive(Clone, PartialEq, Eq, Drop)]
 pub enum Status {
     Pending,
@@ -77,7 +78,9 @@ pub enum Status {
 pub struct Appeal {
     pub session: SessionCode,
     pub subject: Subject,
+    /// Why the candidate lodged it. The reason of its decision is in the status.
     pub reason: Reason,
     pub status: Status,
+    /// The day on which it was lodged.
     pub lodged: Day,
 }

@@ -116,7 +116,9 @@ fn fit_table(
     fit_rows(alloc, facts, session, keys, &rooms)
 }
 
-/// The seating problem of the session, with its members and its open halls, from the lists of all sessions.
+/// The seating problem of the session, with its members and its open halls, from the lists of all sessions. Does not
+/// ask whether there is such a session. Refused if there are more members or open halls than a session may have, or if
+/// memory runs out.
 pub fn indexed_problem(
     alloc: Global,
     facts: &Facts,

@@ -179,7 +179,7 @@ fn no_extra() -> Extra
     Extra::new(0).unwrap()
 }
 
-/// Whether this live paper is not the one that is sat.
+/// Whether this live paper is not the one that is sat; yes if none is sat.
 pub fn is_clash(sat: &Option<PaperCode>, paper: &PaperCode) -> bool
     ensures { result ≡ spec.is_clash sat.now paper.now }
 {

@@ -125,7 +125,7 @@ fn add_texts(alloc: Global, school: &mut School, texts: &[&str]) -> Result<(), F
     Ok(())
 }
 
-/// The school with these facts. Nobody is entered, and no hall is opened.
+/// The school and these facts. Without them nobody is entered, and no hall is opened.
 pub fn school_with(alloc: Global, texts: &[&str]) -> Result<School, Fail> {
     let mut school = School {
         facts: Facts::new(alloc),

@@ -106,7 +106,7 @@ where
 }
 
 impl<K, A: Alphabet, const LEAST: usize, const GREATEST: usize> Code<K, A, LEAST, GREATEST> {
-    /// Appends the code's bytes. Refused if there is not enough memory.
+    /// Appends the code's bytes. Refused if there is not enough memory; the vector then stays as it was.
     pub fn write_to(&self, out: &mut Vec<u8>) -> Result<(), Refusal>
         ensures ok { OnOk result (out.new.items ≡ out.old.items ++ self.now) }
         ensures form { IsTrue (is_code A.allowed LEAST GREATEST self.now) }

@@ -99,7 +99,7 @@ impl Features {
         }
     }
 
-    /// Appends the text. Refused if there is not enough memory.
+    /// Appends the text. Refused if there is not enough memory; the vector then stays as it was.
     pub fn write_to(&self, out: &mut Vec<u8>) -> Result<(), Refusal>
         ensures ok { OnOk result (out.new.items ≡ out.old.items ++ spec.features_text self.now) }
         ensures err { OnErr result (out.new.items ≡ out.old.items) }

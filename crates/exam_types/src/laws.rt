@@ -45,7 +45,8 @@ pub fn access_code_of(bytes: &[u8]) -> Option<AccessCode>
     AccessCode::parse(bytes)
 }
 
-/// 1 to 80 bytes of UTF-8 with no control character are a name. Refused if there is not enough memory.
+/// 1 to 80 bytes of UTF-8 with no control character below U+0080 are a name. Refused if there is not enough memory, but
+/// only if the bytes are a name.
 pub fn name_of(alloc: Global, bytes: &[u8]) -> Result<Option<Name>, Refusal>
     ensures ok { IfOk result (λ name. name ≡ (if is_name bytes.now then Some bytes.now else None)) }
     ensures memory { IfErr result (λ e. (e ≡ NoMemory) × IsTrue (is_name bytes.now)) }
@@ -53,7 +54,8 @@ pub fn name_of(alloc: Global, bytes: &[u8]) -> Result<Option<Name>, Refusal>
     Name::parse(alloc, bytes)
 }
 
-/// 0 to 200 bytes of UTF-8 with no control character are a reason. Refused if there is not enough memory.
+/// 0 to 200 bytes of UTF-8 with no control character below U+0080 are a reason. Refused if there is not enough memory,
+/// but only if the bytes are a reason.
 pub fn reason_of(alloc: Global, bytes: &[u8]) -> Result<Option<Reason>, Refusal>
     ensures ok { IfOk result (λ reason. reason ≡ (if is_reason bytes.now then Some bytes.now else None)) }
     ensures memory { IfErr result (λ e. (e ≡ NoMemory) × IsTrue (is_reason bytes.now)) }

@@ -38,7 +38,8 @@ impl Form for NumberForm {
 /// The greatest time.
 pub const GREATEST_MINUTE: u32 = 2639;
 
-/// A time, 00:00 to 43:59, in minutes from the start of the day. Contracts see the number.
+/// A time, 00:00 to 43:59, in minutes from the start of a session's day. From 24:00 on it is on the next day. Contracts
+/// see the number.
 pub type Minute = Ranged<u16, MinuteForm>;
 
 /// The range and the spelling of a [`Minute`].

@@ -56,7 +56,7 @@ impl<W, F: Form> Ranged<W, F> {
         Ranged::of(F::Spelling::read(bytes)?)
     }
 
-    /// Appends the text. Refused if there is not enough memory.
+    /// Appends the text. Refused if there is not enough memory; the vector then stays as it was.
     pub fn write_to(&self, out: &mut Vec<u8>) -> Result<(), Refusal>
         ensures ok { OnOk result (out.new.items ≡ out.old.items ++ F.Spelling.text self.now) }
         ensures form { F.in_range self.now }

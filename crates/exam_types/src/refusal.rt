@@ -7,14 +7,15 @@ use crate::day::Day;
 use std::alloc::{AllocError, AllocFailed};
 use thiserror::Error;
 
-/// Why a call is refused. After a refusal everything is as before.
+/// Why a call is refused. Each call says what its refusal leaves behind. After `NoMemory` and `Store` a command on a
+/// database may be done all the same.
 #[derive(Clone, Copy, Debug, PartialEq, Eq, Error)]
 pub enum Refusal {
     /// A row of an import is bad: its record, counted from 1 after the header, and its first bad column, counted from 1
     /// from the left, or 0 if the count of fields is wrong.
     #[error("record {0} column {1} is bad")]
     BadRow(u32, u32),
-    /// The first record of an import is not the header of its kind.
+    /// The first record of an import is not the header of its kind, or there is none.
     #[error("the header is not that of the kind")]
     BadHeader,
     /// A row of an import, whose record this is, counted from 1, has the key of an earlier row but other contents.
@@ -23,16 +24,17 @@ pub enum Refusal {
     /// There is no such session.
     #[error("no such session")]
     UnknownSession,
-    /// There is no such paper.
+    /// There is no such paper; of an attendance sheet: the session has no such paper.
     #[error("no such paper")]
     UnknownPaper,
-    /// There is no such candidate.
+    /// There is no such candidate, or a request does not show their access code.
     #[error("no such candidate")]
     UnknownCandidate,
     /// There is no such hall.
     #[error("no such hall")]
     UnknownHall,
-    /// The candidate has no such entry.
+    /// The candidate has no entry for the paper. For a clash appeal the entry must be live, and the paper of the
+    /// session.
     #[error("no such entry")]
     NoEntry,
     /// The entry is withdrawn already.
@@ -68,10 +70,10 @@ pub enum Refusal {
     /// What the appeal asks for is the case already.
     #[error("nothing to change")]
     NothingToChange,
-    /// A limit of the office would be passed.
+    /// A limit of the office would be passed, or an import file is too long.
     #[error("a limit would be passed")]
     TooMany,
-    /// There is already an open appeal of this kind.
+    /// The candidate already has an open appeal of this kind for the session.
     #[error("an open appeal of this kind stands")]
     AppealStands,
     /// There is not enough memory.
@@ -80,7 +82,7 @@ pub enum Refusal {
     /// A call of the database failed.
     #[error("the database failed")]
     Store,
-    /// The database holds no office.
+    /// The database holds no good office.
     #[error("the database holds no office")]
     BadStore,
     /// The hall is not opened for the session.

@@ -31,7 +31,7 @@ const LONGEST_REASON: usize = 200;
 /// Why an appeal was lodged, or why it was decided as it was: 0 to 200 bytes.
 pub type Reason = Text<SHORTEST_REASON, LONGEST_REASON>;
 
-/// `LEAST` to `GREATEST` bytes of UTF-8 with no control character. Contracts see the bytes.
+/// `LEAST` to `GREATEST` bytes of UTF-8 with no control character below U+0080. Contracts see the bytes.
 #[derive(Drop)]
 pub struct Text<const LEAST: usize, const GREATEST: usize> {
     text: String,
@@ -64,7 +64,7 @@ impl<const LEAST: usize, const GREATEST: usize> Text<LEAST, GREATEST> {
         }
     }
 
-    /// Appends the bytes. Refused if there is not enough memory.
+    /// Appends the bytes. Refused if there is not enough memory; the vector then stays as it was.
     pub fn write_to(&self, out: &mut Vec<u8>) -> Result<(), Refusal>
         ensures ok { OnOk result (out.new.items ≡ out.old.items ++ self.now) }
         ensures form { IsTrue (is_text LEAST GREATEST self.now) }
@@ -115,7 +115,7 @@ impl<const LEAST: usize, const GREATEST: usize> Eq for Text<LEAST, GREATEST> {
     ghost laws = { nat_list_eq_equiv };
 }
 
-/// The bytes as text, or none if they are not `low` to `high` bytes of UTF-8 with no control character.
+/// The bytes as text, or none if they are not `low` to `high` bytes of UTF-8 with no control character below U+0080.
 fn plain_text(bytes: &[u8], low: usize, high: usize) -> Option<&str>
     ensures some { IfSome result (λ text. (text.now ≡ bytes.now) × IsTrue (is_text low high bytes.now)) }
     ensures none { IfNone result (is_text low high bytes.now ≡ false) }

@@ -22,7 +22,8 @@ pub trait AppealSource {
     /// What every call leaves as it is, from the source before to the source after.
     ghost Stays: { Self → Self → Type 0 };
 
-    /// The next row, or none after the last one. The contract speaks of a source that is honest after the call.
+    /// The next row, or none after the last one. This is said only of a source that is honest after the call. Refused
+    /// with `NoMemory`, `Store` or `BadStore`, each for a reason that `Refuses` names.
     fn next(&mut self) -> Result<Option<AppealRow>, Refusal>
         ensures row { Self.IsHonest self.new → IfOk result (λ row.
             Gives row (Self.coming self.old) (Self.coming self.new)) }

@@ -166,7 +166,7 @@ fn deskless_sessions(
     Ok(list)
 }
 
-/// The session with these papers, if there are any.
+/// The session with these papers, if there are any and the session exists.
 fn membership_of(
     facts: &Facts,
     session: SessionCode,

@@ -30,6 +30,7 @@ pub struct Seat {
 /// number of unseated candidates.
 #[derive(Drop)]
 pub struct SessionShortage {
+    /// How many members have no desk.
     pub unseated: usize,
     /// Each hall with its desks, by code.
     pub halls: Vec<(HallCode, u32)>,
@@ -58,7 +59,7 @@ pub struct AppealRow {
 }
 
 impl AppealRow {
-    /// What it asks for, as one word.
+    /// The kind of what it asks for: `hall`, `clash` or `arrangement`.
     pub fn kind(&self) -> &'static [u8]
         ensures { result.now ≡ words.kind_word self.now.subject }
     {
@@ -197,7 +198,8 @@ impl SessionView {
         self.appeals.as_slice()
     }
 
-    /// The contested candidates, with all halls that fit any of them.
+    /// How many members have no desk, and the candidates whom some best plan leaves out, with all halls that fit any of
+    /// them.
     pub fn shortage(&self, alloc: Global) -> Result<SessionShortage, Refusal>
         ensures ok { IfOk result (λ shortage. views.ShowsShortage self.now (views.report_of shortage)) }
         ensures memory { OnlyMemory result }
