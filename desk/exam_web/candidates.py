@@ -4,7 +4,7 @@ import sqlite3
 from collections.abc import Callable
 from functools import partial
 
-from flask import Blueprint, abort, g, redirect, render_template, request, url_for
+from flask import Blueprint, abort, redirect, render_template, request, url_for
 from werkzeug.datastructures import MultiDict
 from werkzeug.wrappers import Response
 
@@ -108,10 +108,10 @@ def slips(number: int | None = None) -> str:
     if brought:
         with at_field(("candidates.find", {}), "slips", "groups"):
             groups = files.texts_by_number(brought.stream.read(), brought.filename or "", *slip_pages.GROUP)
-        g.visit.said += [("", said(line)) for line in slip_pages.beside_groups(view().reading, groups)]
     of_one = [Session(session).code for session in [request.form.get("session", "")] if session]
     choice = slip_pages.Choice(of_one, only, "codes" in request.form, bool(only or of_one), groups)
-    return styled(slip_pages.page(view().reading, choice))
+    return styled(slip_pages.page(view().reading, choice),
+                  map(said, slip_pages.beside_groups(view().reading, groups)))
 
 
 @appeal_pages.get("/appeals", endpoint="page")

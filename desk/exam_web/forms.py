@@ -5,7 +5,7 @@ import contextlib
 import hashlib
 import re
 import secrets
-from collections.abc import Callable, Iterator, Mapping
+from collections.abc import Callable, Iterable, Iterator, Mapping
 from typing import Any, NamedTuple
 
 from flask import current_app, g, redirect, request, url_for
@@ -17,7 +17,7 @@ from werkzeug.wrappers import Response
 from exam_desk import mistakes, on_paper, private, typed
 from exam_desk.office import Trouble
 from exam_web.desk import desk
-from exam_web.wording import said, text
+from exam_web.wording import language, said, text
 
 Form = MultiDict[str, str]
 Page = tuple[str, dict[str, Any]]  # an endpoint and its values
@@ -107,11 +107,13 @@ def keep(found: dict[str, Any], most: int, value: object) -> str:
     return key
 
 
-def styled(page: str) -> str:
-    """A sheet, whose own style the policy of this answer lets through, and no other."""
+def styled(page: str, said: Iterable[Markup] = ()) -> str:
+    """A sheet, whose own style the policy of this answer lets through, and no other. What is said of it stands above it
+    on the screen, and is not printed."""
     style = page[page.index("<style>") + len("<style>"):page.index("</style>")]
     g.style = f" 'sha256-{base64.b64encode(hashlib.sha256(style.encode()).digest()).decode()}'"
-    return page
+    lines = (Markup('<p role="status" lang="{}">{}</p>\n').format(language(), line) for line in said)
+    return page.replace("<body>\n", "<body>\n" + "".join(lines), 1)
 
 
 def attached(content: bytes, name: str, kind: str = "text/csv") -> Response:

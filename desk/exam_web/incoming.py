@@ -52,6 +52,7 @@ class Upload:
     notes: list[Markup] = field(default_factory=list)
     workbooks: list[Book] = field(default_factory=list)
     columns: tuple[Mapping[str, Given], Way] | None = None  # what a file of columns says of all workbooks
+    broken: int = 0  # files of columns that cannot be read
     when: str = field(default_factory=lambda: datetime.datetime.now().isoformat(" ", "minutes"))
     is_called_list: bool = False  # a file or a sheet of entries is called withdrawals or reinstatements
     names: list[str] = field(default_factory=list)  # of the files, as the browser gave them
@@ -127,6 +128,7 @@ def take(upload: Upload, name: str, content: bytes, way: Way, most: int = files.
             upload.note(name, text("what it says of headers and words holds for the workbooks that come with it"))
         except Trouble as trouble:
             upload.note(name, said(trouble.sentence))
+            upload.broken += 1
     elif kind := next((kind for kind in files.HEADERS if files.is_header(kind, first)), None):
         upload.take(kind, content, name)
     else:

@@ -141,7 +141,8 @@ class Plan:
     def way_back(self) -> str:
         """The address of the page with the form; as long as nothing is done, all that was given is still in it."""
         endpoint, values = self.page if self.is_done else self.form_page or self.page
-        left = {} if self.is_done else {"again": self.key, "_anchor": self.asked.form}
+        place = "-".join(filter(None, [self.asked.form, self.asked.given.get("key")]))  # of the form
+        left = {} if self.is_done else {"again": self.key, "_anchor": place}
         return url_for(endpoint, **{**values, **left})
 
     def met(self) -> dict[str, tuple[int, int]]:
