@@ -21,7 +21,6 @@ from exam_web.wording import language, said, text
 
 Form = MultiDict[str, str]
 Page = tuple[str, dict[str, Any]]  # an endpoint and its values
-SHEET_HINT = "; format the column as text"  # of cures, for who has a spreadsheet
 
 
 class Asked(NamedTuple):
@@ -77,8 +76,8 @@ def checked(page: Page, form: Form, **columns: str) -> dict[str, str]:
     """The values of fields, in the forms of columns; what is wrong stands at its field. A number may lack its zeros."""
     values = {name: form.get(name, "").strip() for name in columns}
     values |= {name: typed.number(values[name]) for name, column in columns.items() if column == "number"}
-    wrong = {name: text(mistakes.CURES[column].removesuffix(SHEET_HINT)) for name, column in columns.items()
-             if not mistakes.RIGHT[column](values[name].encode("utf-8", "surrogateescape"))}
+    wrong = {name: text(mistakes.CURES[column].removesuffix(typed.OF_A_SHEET)) for name, column in columns.items()
+             if not typed.is_right(column, values[name])}
     if wrong:
         raise Wrong(page, **wrong)
     return values

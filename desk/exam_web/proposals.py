@@ -164,21 +164,21 @@ class Plan:
         return [(step.words[1], int(said[1]), int(said[3]), int(said[5])) for step, said in parts
                 if said[::2] == ["added", "changed", "same"]]
 
-    def refuse(self, line: str, explained: list[str]) -> None:
-        self.refusal, self.against = line, explained or [line]
+    def refuse(self, who: Office, answered: Answered) -> None:
+        self.refusal = answered.first_line()
+        self.against = answered.explained(who) or [self.refusal]
 
     def take(self, who: Office, answers: list[Answered]) -> None:
         """Keeps what the program said of the steps, and in words where it refuses the last."""
         self.answers = answers
         if refused := changing.refused_of(answers):
-            self.refuse(refused.first_line(), refusals.explained(who, refused.step.words, refused.ran.complaint,
-                                                                 refused.step.data))
+            self.refuse(who, refused)
 
     def grant(self, who: Office) -> list[Step]:
         """Lodges the appeal, and keeps its reference; gives the step that would grant it, none where it is refused."""
         lodged = lodging.lodge(who, self.lodge)
         if lodged.ran.status:
-            self.refuse(lodged.first_line(), lodged.explained(who))
+            self.refuse(who, lodged)
             return []
         self.lodged = lodged.first_line().split()[1]
         return [Step(("decide", self.lodge[0], self.lodged, "granted", ""))]
