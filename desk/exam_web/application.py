@@ -8,10 +8,11 @@ from flask.typing import ResponseReturnValue
 from markupsafe import escape
 from werkzeug.exceptions import HTTPException
 from werkzeug.routing import IntegerConverter
+from werkzeug.wrappers import Response
 
 from exam_desk import appeals, beside, on_paper
 from exam_desk.telling import people_and_sittings
-from exam_desk.office import NoOffice, Trouble
+from exam_desk.office import Trouble
 from exam_desk.words import FEATURES
 from exam_web import candidates, forms, guard, office, proposals, season, session, uploads, wording
 from exam_web.desk import Desk, StillReading, desk
@@ -26,6 +27,8 @@ PROBLEMS = {
     405: "This address takes no such request. Nothing was done.",
     413: "The upload is larger than 32 MB. Nothing was taken.",
 }
+FIRST = {*guard.OPEN, "entering.leave", "season.page", "season.init", "files.template", "office.page", "office.bring",
+         "office.copy", "office.back", "office.handbook"}  # what can be asked where there is no office
 
 
 class Number(IntegerConverter):
@@ -46,6 +49,7 @@ def make(here: Desk) -> Flask:
         last_day=appeals.to_decide, tally=people_and_sittings, by_halls=on_paper.by_halls)
     for screen in SCREENS:
         app.register_blueprint(screen)
+    app.before_request(begin)
     app.context_processor(everywhere)
     app.teardown_request(let_go)
     app.register_error_handler(forms.Wrong, forms.wrong_page)
@@ -53,6 +57,11 @@ def make(here: Desk) -> Flask:
     for kind in (HTTPException, Trouble, OSError, sqlite3.Error):
         app.register_error_handler(kind, problem)
     return app
+
+
+def begin() -> Response | None:
+    """Where there is no office yet, all other screens lead to the first page, which makes one or takes a backup."""
+    return None if request.endpoint in FIRST or desk().is_there() else redirect(url_for("season.page"), 303)
 
 
 def let_go(_: BaseException | None) -> None:
@@ -83,10 +92,7 @@ def still_reading(stage: StillReading) -> ResponseReturnValue:
 
 
 def problem(fault: Exception) -> ResponseReturnValue:
-    """A fault in words: of a request, or what the package, a file or the database refuses. Where there is no office
-    yet all leads to the first page, which makes one or takes a backup."""
-    if isinstance(fault, NoOffice):
-        return redirect(url_for("season.page"), 303)
+    """A fault in words: of a request, or what the package, a file or the database refuses."""
     said, status = wording.said(str(fault)), 500
     if isinstance(fault, HTTPException):
         if fault.code == 401:
