@@ -16,7 +16,7 @@ from exam_desk.overlaps import of_day
 from exam_desk.reading import Member
 from exam_desk.sheets import papers, slips
 from exam_desk.words import clock
-from exam_web.desk import View, desk, office, once, sums, two_papers, view
+from exam_web.desk import AT_ONCE, View, desk, office, once, sittings, sums, view
 from exam_web.forms import Form, Page, Wrong, at_field, attached, checked, lead, styled, tell_papers, whole
 from exam_web.proposals import APPEALS, PLANS, Plan, command, features, import_step
 from exam_web.wording import many, text
@@ -68,7 +68,7 @@ class Session:
 
     def clashes(self, most: int) -> list[tuple[Member, list[str]]]:
         """Who has two papers at once, and which they miss, as the program says of those with two live entries."""
-        numbers = two_papers(view()).get(self.code, [])[:most]
+        numbers = sorted(number for code, number in sittings(view(), AT_ONCE) if code == self.code)[:most]
         missed = view().reading.clashes(self.code, numbers)
         return [(member, missed[member.number]) for member in view().reading.members(self.code, numbers)
                 if member.number in missed]
