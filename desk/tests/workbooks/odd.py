@@ -144,3 +144,11 @@ case("crosses-beside-candidates", xlsx(sheet("Candidates", [*CANDIDATES, "MA-1",
      1, only=True, mistakes=[["Candidates!D1", "a sheet Entries"], ["Candidates!E1", "a sheet Arrangements"]], told=[["Candidates!F1", "not read"]])
 case("struck-and-odd", xlsx(candidates(["0000001", ("strike", "Fran\u00c3\u00a7ois"), "CODE0001"])), 1, only=True, quiet=True,
      mistakes=[["Candidates!B2", "struck"]])
+case("text-under-a-format-of-numbers", xlsx(candidates([("t", "0000001", "@ 0"), *ADA[1:]])), files={"candidates": [ADA_LINE]},
+     told=[["Candidates!A2", "0000001"]])
+case("column-of-other-letters", xlsx(candidates([ADA[0], ("raw", '<c r="\u00c92" t="inlineStr"><is><t>Ada Lin</t></is></c>'), ADA[2]])), 1,
+     stderr=["is broken"])
+case("numbers-beyond-all-digits", xlsx(candidates([("n", "1e30", "0"), *ADA[1:]], [("n", "-1e999999", "General"), *BO[1:]])), 1, only=True,
+     mistakes=[["Candidates!A2", "1.00000E+30"], ["Candidates!A3", "-1.00000E+999999"]])
+case("row-of-headers-words", xlsx(sheet("Candidates", [*CANDIDATES, "Form"], [*ADA, None], ["0000002", "Hall", "CODE0002", "Exam"])),
+     files={"candidates": [ADA_LINE, "0000002,Hall,CODE0002"]}, told=[["Candidates!D1", "not read"]])
