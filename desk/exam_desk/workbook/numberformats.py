@@ -45,7 +45,7 @@ def number_cell(raw: str, form: str, epoch: datetime.datetime = WINDOWS) -> Cell
     if abs(number) > MOST_NUMBER:
         return Cell("number", f"{number:.5E}", f"{number:.5E}")
     kind = kind_of(form)
-    if kind in ("date", "time", "elapsed"):
+    if kind in ("moment", "elapsed"):
         return moment_cell(number, form, kind, epoch)
     tidy = decimal.Context(prec=15).create_decimal(number * 100 if kind == "percent" else number).normalize()
     plain = format(tidy, "f") if tidy else "0"  # beyond fifteen digits is noise of binary numbers
@@ -59,14 +59,14 @@ def number_cell(raw: str, form: str, epoch: datetime.datetime = WINDOWS) -> Cell
 
 
 def moment_cell(number: decimal.Decimal, form: str, kind: str, epoch: datetime.datetime) -> Cell:
-    """The cell of a number under a format of dates or of times."""
+    """The cell of a number under a format of dates or of times: below 1 it is a time."""
     seconds = round(number * 86_400)
     if kind == "elapsed":
         return Cell("time", clock_text(seconds), "")
     if not 0 <= number < LAST_SERIAL:
         return Cell("number", str(number), "")
     when = epoch + datetime.timedelta(seconds=seconds)
-    if kind == "date" or number >= 1:
+    if number >= 1:
         return Cell("date", whole_day(when.isoformat()), painted(form, when))
     return Cell("time", clock_text(seconds), painted(form, when))
 
@@ -84,18 +84,16 @@ def sections(form: str) -> list[list[str]]:
 
 @functools.cache
 def kind_of(form: str) -> str:
-    """What a number format makes of a number: date, time (of day), elapsed (time), percent or number."""
+    """What a number format makes of a number: a moment, a time that elapsed, a percentage or a number."""
     tokens = sections(form)[0]
     bare = "".join(token for token in tokens if token[0] not in '"\\_*[').lower()
     if "%" in bare:
         return "percent"
-    if bare in ("general", "@") or re.search("[0#?]", re.sub(r"s[.,]0+", "s", bare).replace("yy?", "yy")):
+    if "general" in bare or bare == "@" or re.search("[0#?]", re.sub(r"s[.,]0+", "s", bare).replace("yy?", "yy")):
         return "number"
-    elapsed = any(re.fullmatch(r"\[(h+|m+|s+)\]", token, re.I) for token in tokens)
-    clock = elapsed or re.search("[hs]", bare)
-    if re.search("[ydgeb]|mmm", bare) or "m" in bare and not clock:
-        return "date"
-    return "elapsed" if elapsed else "time" if clock else "number"
+    if any(re.fullmatch(r"\[(h+|m+|s+)\]", token, re.I) for token in tokens):
+        return "elapsed"
+    return "moment" if re.search("[ydgebmhs]", bare) else "number"
 
 
 def shown_number(form: str, number: decimal.Decimal) -> str:
@@ -118,7 +116,7 @@ def literal(token: str) -> str:
     """The letters that a piece of a number format shows whatever the cell holds; raises `Unknown`."""
     if token[0] == "[":
         return token[2:-1].split("-")[0] if token.startswith("[$") else ""
-    if len(token) > 1 and token[0] in '_*"\\':
+    if token[0] in '_*"\\':
         return {"_": " ", "*": "", '"': token.strip('"'), "\\": token[1:]}[token[0]]
     if token not in " -+/():!^&'~{}<>=$€£%":
         raise Unknown(token)
@@ -143,8 +141,6 @@ def shown_token(token: str, number: decimal.Decimal) -> str:
 
 def text_cell(text: str, form: str) -> Cell:
     """The cell of a text under a number format, which may show nothing of it."""
-    if form in (GENERAL, "@"):
-        return Cell("text", text, text)
     parts = sections(form)
     section = parts[3] if len(parts) > 3 else next((part for part in parts if "@" in part), ["@"])
     try:

@@ -115,7 +115,7 @@ class Table(Headed):
         """The rows that are read, each with its cells of the table; of those that are left a line says why."""
         below, data = self.below(), self.places()
         last = max((row for row, cells in below.items() if not data.isdisjoint(cells)), default=0)
-        head = {place: folded(cell.text) for place, cell in self.head.items() if place in data}
+        head = {place: folded(cell.text) for place, cell in self.head.items()}
         for row, cells in below.items():
             own = {place: seen(cells.get(place)) for place in data}
             here = {place: cell or filled.get((row, place)) for place, cell in own.items()} if filled else own
@@ -229,4 +229,4 @@ class Table(Headed):
 @functools.lru_cache(1 << 16)
 def says_total(cell: Cell | None) -> bool:
     """Whether a cell says that its row is a total, such as `Total`, `Summe der Plätze` or `Sum: 24`."""
-    return cell is not None and cell.kind == "text" and TOTAL.fullmatch(bare(cell.text[:100]).lower()) is not None
+    return cell is not None and TOTAL.fullmatch(bare(cell.text[:100]).lower()) is not None

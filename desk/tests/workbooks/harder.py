@@ -85,7 +85,7 @@ case("dates-of-machines", xlsx(sheet("Sessions", SESSIONS, ["S1", ("n", "46539",
 case("dates-out-of-range", xlsx(sheet("Sessions", SESSIONS, ["S1", ("n", "20270601", DATE), "09:00"], ["S2", ("n", "-5", DATE), "09:00"],
                                       ["S3", ("n", "0", DATE), "09:00"], ["S4", ("n", "36000", DATE), "09:00"], ["S5", ("n", "46539.5", DATE), "09:00"],
                                       ["S6", 20271301, "09:00"], ["S7", "2027-02-30", "09:00"], ["S8", ("n", "1e9", DATE), "09:00"])), 1, only=True,
-     mistakes=[["Sessions!B2"], ["Sessions!B3"], ["Sessions!B4"], ["Sessions!B5"], ["Sessions!B6", "12:00"], ["Sessions!B7"], ["Sessions!B8"],
+     mistakes=[["Sessions!B2"], ["Sessions!B3"], ["Sessions!B4", "30/12/1899"], ["Sessions!B5"], ["Sessions!B6", "12:00"], ["Sessions!B7"], ["Sessions!B8"],
                ["Sessions!B9"]])
 case("dates-turned-two-digits", xlsx(sheet("Sessions", SESSIONS, ["S1", ("n", "46539", DATE), "09:00"], ["S2", "13/06/27", "09:00"],
                                            ["S3", ("n", "46560", DATE), "09:00"])), 1, only=True,

@@ -152,3 +152,14 @@ case("numbers-beyond-all-digits", xlsx(candidates([("n", "1e30", "0"), *ADA[1:]]
      mistakes=[["Candidates!A2", "1.00000E+30"], ["Candidates!A3", "-1.00000E+999999"]])
 case("row-of-headers-words", xlsx(sheet("Candidates", [*CANDIDATES, "Form"], [*ADA, None], ["0000002", "Hall", "CODE0002", "Exam"])),
      files={"candidates": [ADA_LINE, "0000002,Hall,CODE0002"]}, told=[["Candidates!D1", "not read"]])
+case("total-beside-codes", xlsx(sheet("Openings", OPENINGS, ["S1", "A", 10, "12:00", "no"], ["S1", "TOTAL", 10, None, None])),
+     files={"openings": ["S1,A,10,12:00,no"]}, told=[["Openings!3", "looks like a total"]])
+case("minus-zero", xlsx(sheet("Arrangements", ARRANGEMENTS, ["0000001", "quiet", ("n", "-0", "General")])),
+     files={"arrangements": ["0000001,quiet,0"]})
+case("total-in-the-middle", xlsx(sheet("Openings", OPENINGS, ["S1", "A", 10, "12:00", "no"], [None, None, ("f", "SUM(C2)", 10), None, None],
+     ["S1", "B", 5, "12:00", "no"])), 1, only=True, mistakes=[["Openings!3", "is this a total?"]])
+case("merged-and-empty", xlsx(candidates(ADA, [], BO, merge=["A3:C3"])), files={"candidates": [ADA_LINE, "0000002,Bo Berg,CODE0002"]}, quiet=True)
+case("numbers-by-conditions", xlsx(sheet("Openings", OPENINGS, ["S1", "A", ("n", "24", '[>100]0;0"0"'), "12:00", "no"],
+     ["S1", "B", ("n", "24", '0;[<30]0"0"'), "12:00", "no"])), 1, only=True, mistakes=[["Openings!C2"], ["Openings!C3"]])
+case("numbers-by-plain-formats", xlsx(candidates([("n", "1", ""), *ADA[1:]], [("n", "2", "+General"), *BO[1:]])),
+     files={"candidates": [ADA_LINE, "0000002,Bo Berg,CODE0002"]}, told=[["Candidates!A3", "number +2 became 0000002"]])
