@@ -220,6 +220,16 @@ class Told(unittest.TestCase):
         self.assertEqual([line for line in found if ": date" in line],
                          [f"'Form 1'!C{2 * day}:C{2 * day + 1}: date {day}; 2 times" for day in range(1, 31)])
 
+    def test_each_date_and_each_reason_has_a_line(self) -> None:
+        days = [f"{day}/2027" for day in ("14/06", "21/06", "28/06", "19/07", "26/07")]  # all of them Mondays
+        numbers = [*(f"{number}" for number in range(11, 15)), *(f"'{number}" for number in range(21, 25))]
+        book = rawbook.xlsx(cases.sheet("Sessions", cases.SESSIONS, *([f"S{day[:2]}", day, "09:00"] for day in days)),
+                            cases.sheet("Candidates", cases.CANDIDATES, *([each, "Ada", f"CODE00{each[-2:]}"] for each in numbers)))
+        told = [line.whole() for line in together(read_book(unpacked(child.read(book)), Job(Known())).report.lines)]
+        self.assertEqual([f"Sessions!B2: date {days[0]} became 2027-06-14 (Monday, 14 June 2027, as there is no month 14)",
+                          *(f"Sessions!B{row}" for row in range(3, 7)), "Candidates!A2:A5", "Candidates!A6:A9"],
+                         [told[0], *(line.partition(":")[0] for line in told[1:5]), *(line.rpartition(": ")[0] for line in told[5:7])])
+
     def test_what_differs_stands_apart(self) -> None:
         other = Sheet("Form 2")
         for sheet, column, text in [(self.sheet, 1, "is missing"), (other, 1, "is missing"), (other, 2, "is missing"),

@@ -101,7 +101,7 @@ def shown_number(form: str, number: decimal.Decimal) -> str:
     parts = sections(form)
     if locale_of(form) >= OTHER_DIGITS or any(re.match(r"\[[<>=]", token) for part in parts for token in part):
         raise Unknown(form)
-    numeric = parts[:3] if len(parts) > 1 or "@" not in parts[0] else [[GENERAL]]
+    numeric = parts[:3] if "@" not in parts[0] else [[GENERAL]]
     place = 0 if number > 0 else 1 if number < 0 else 2
     section = numeric[place] if place < len(numeric) else numeric[0]
     if not "".join(section).strip() and len(parts) > 1:

@@ -118,7 +118,7 @@ class Table(Headed):
         head = {place: folded(cell.text) for place, cell in self.head.items()}
         for row, cells in below.items():
             own = {place: seen(cells.get(place)) for place in data}
-            here = {place: cell or filled.get((row, place)) for place, cell in own.items()} if filled else own
+            here = {place: cell or filled.get((row, place)) for place, cell in own.items()}
             if not any(own.values()):
                 for place in [place for place in sorted(cells) if seen(cells[place])][:1]:
                     text = f"{shown_of(cells[place])!r} stands beside empty columns; the row is not read"

@@ -3,6 +3,7 @@ import io
 import zipfile
 
 from cases import ADA, ADA_LINE, ARRANGEMENTS, BO, CANDIDATES, ENTRIES, HALLS, OPENINGS, PAPERS, SESSIONS, candidates, sheet
+from harder import own_sheet, row_xml
 from rawbook import MAIN, TIME, ods, ods_row, xlsx, zipped
 
 CASES = []
@@ -163,3 +164,11 @@ case("numbers-by-conditions", xlsx(sheet("Openings", OPENINGS, ["S1", "A", ("n",
      ["S1", "B", ("n", "24", '0;[<30]0"0"'), "12:00", "no"])), 1, only=True, mistakes=[["Openings!C2"], ["Openings!C3"]])
 case("numbers-by-plain-formats", xlsx(candidates([("n", "1", ""), *ADA[1:]], [("n", "2", "+General"), *BO[1:]])),
      files={"candidates": [ADA_LINE, "0000002,Bo Berg,CODE0002"]}, told=[["Candidates!A3", "number +2 became 0000002"]])
+case("zero-and-minus-by-sections", xlsx(sheet("Arrangements", ARRANGEMENTS, ["0000001", "quiet", ("n", "0", '0;0;"-"')],
+     ["0000002", "quiet", ("n", "-4", '0;0;"-"')])), 1, only=True, mistakes=[["Arrangements!C2", "shown as -:"], ["Arrangements!C3", "shown as 4:"]])
+case("codes-in-brackets", xlsx(sheet("Halls", HALLS, [("n", "101", "[Red]0"), "A", "-"], [("n", "102", "[$\u20ac-407]0"), "B", "-"])), 1,
+     only=True, mistakes=[["Halls!A3", "shown as \u20ac102:"]])
+case("number-without-zeros", xlsx(candidates([("n", "1", "#"), *ADA[1:]])), files={"candidates": [ADA_LINE]},
+     told=[["Candidates!A2", "number 1 became 0000001"]])
+case("zero-with-a-zero", xlsx(sheet("Arrangements", ARRANGEMENTS, ["0000001", "quiet", ("n", "0", "0")])),
+     files={"arrangements": ["0000001,quiet,0"]}, told=[["", "0 mistakes, 0 changes"]])
