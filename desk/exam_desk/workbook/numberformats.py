@@ -55,7 +55,7 @@ def number_cell(raw: str, form: str, epoch: datetime.datetime = WINDOWS) -> Cell
             return Cell("unseen", plain, "") if tidy else None
     except Unknown:
         shown = f"{float(number):.2E}" if form == BUILT_IN[11] else ""
-    return Cell("percent", f"{plain}%", shown or f"{plain}%") if kind == "percent" else Cell("number", plain, shown)
+    return Cell("percent", f"{plain}%", shown) if kind == "percent" else Cell("number", plain, shown)
 
 
 def moment_cell(number: decimal.Decimal, form: str, kind: str, epoch: datetime.datetime) -> Cell:
@@ -107,7 +107,7 @@ def shown_number(form: str, number: decimal.Decimal) -> str:
     if not "".join(section).strip() and len(parts) > 1:
         return ""
     pieces = [shown_token(token, abs(number)) for token in section or [GENERAL]]
-    if sum(token.lower() == "general" or token[0] in "0#?" for token in section) > 1:
+    if sum(token[0] in "0#?" for token in section) > 1:
         raise Unknown(form)
     return ("-" if number < 0 and place >= len(numeric) else "") + "".join(pieces).strip()
 
@@ -126,7 +126,7 @@ def literal(token: str) -> str:
 def shown_token(token: str, number: decimal.Decimal) -> str:
     """What a piece of a number format shows; raises `Unknown`."""
     if token.lower() == "general":
-        return f"{float(number):.5E}" if number >= LONG_NUMBER else format(number, "f") if number else "0"
+        return f"{float(number):.5E}" if number >= LONG_NUMBER else format(number, "f")
     if token[0] not in "0#":
         return literal(token)
     match = DIGITS.fullmatch(token.replace("#,##", "#,"))
@@ -162,7 +162,7 @@ def painted(form: str, when: datetime.datetime) -> str:
     if locale_of(form) & ~COUNTRY not in (0, ENGLISH):
         return ""
     known = PAINTED | ({"h": "%-I", "hh": "%I"} if "am/pm" in words else {})
-    letters = "".join(word[0] if word[0] in "ymdhs" else " " for word in words)
+    letters = "".join(word[0] for word in words)
     for near in ("h[^hsdy]*", "[^hsdy]*s"):  # behind hours and before seconds a month is a minute
         letters = re.sub(near, lambda match: match[0].replace("m", "n"), letters)
     words = [word.replace("m", letter) if word in ("m", "mm") else word for word, letter in zip(words, letters)]

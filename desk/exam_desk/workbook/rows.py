@@ -75,7 +75,7 @@ class Table(Headed):
         round the days up to the 12th, and left the others as text."""
         [place, *_] = self.header.columns.get("date", [0])
         cells = [(row, cells[place]) for row, cells in self.below().items() if place in cells]
-        texts = [row for row, cell in cells if cell.kind == "text" and AS_TEXT.fullmatch(bare(cell.text))]
+        texts = [row for row, cell in cells if AS_TEXT.fullmatch(bare(cell.text))]
         for row, cell in cells if texts else ():
             if cell.kind == "date" and cell.text[8:10] <= "12":
                 beside = place_name(self.sheet, texts[0], place)
