@@ -36,8 +36,8 @@ class Hold:
         self.renewed = -float(RENEWAL_SECONDS)  # when it last had to after a 500
         self.turn = asyncio.Lock()
         self.clients = self.asked = self.answered = 0
-        most = resource.getrlimit(resource.RLIMIT_NOFILE)[1]
-        files = FILES if most == resource.RLIM_INFINITY else min(FILES, most)
+        most = resource.getrlimit(resource.RLIMIT_NOFILE)[1]  # a number: Linux knows no infinite one
+        files = min(FILES, most)
         resource.setrlimit(resource.RLIMIT_NOFILE, (files, most))
         self.most_clients = min(MOST_CLIENTS, files // 2)
 

@@ -39,11 +39,13 @@ STAYS = ("NOTE: {paper} in {session}, a second sitting of {first}, stays as it i
 STAYS_OPEN = "NOTE: {hall} stays open in {session}, for the second sitting of {people}"
 SAT_AS = "NOTE: {person} sits {first} as {paper}: `office second-sitting {number} {first} --undo` withdraws {paper}"
 MORE_STAY, MORE = "NOTE: .. and {count} more notes on second sittings", "{names} and {count} more"
+SITS = "{person} sits {first} until {finish}, and {paper} from {start} to {end} in {hall}, desk {desk}"
+AGAIN, LACKS, MISSES = "{person} sits {paper} again", "{what} (has no desk)", "{what}, and misses {papers}"
 KEPT = {  # what a second sitting can keep: the words, and the columns
     "on {day} at {start}": ["day", "start"], "{minutes} minutes": ["minutes"], "requires {requires}": ["requires"],
     "the title {title}": ["title"],
 }
-TEXTS = [STAYS, STAYS_OPEN, SAT_AS, ARRANGED, MORE_STAY, MORE, *KEPT]
+TEXTS = [STAYS, STAYS_OPEN, SAT_AS, ARRANGED, MORE_STAY, MORE, SITS, AGAIN, LACKS, MISSES, *KEPT]
 Pairs = list[tuple[sqlite3.Row, sqlite3.Row]]  # of papers, the second made of the first
 
 
@@ -90,7 +92,7 @@ def plan(reading: Reading, number: str, paper: str, start: str, hall: str) -> Pl
     elif not live:
         steps.append(Step(("reinstate", number, code)))
     steps.append(Step(("withdraw", number, paper)))
-    made = (f"session {session}{'' if there else ' (new)'} at {start}, paper {code}{'' if known else ' (new)'}, "
+    made = (f"session {there or f'{session} (new)'} at {start}, paper {known or f'{code} (new)'}, "
             f"hall {hall} with {lists.count(desks, 'desk')}")
     return Plan(" ".join(["second-sitting", *asked]), steps, number, first["session"], session, code, hall, made)
 
@@ -196,20 +198,25 @@ def plan_back(reading: Reading, number: str, paper: str) -> Plan:
 
 def lines(planned: Plan, before: Reading, after: Reading) -> list[str | Said]:
     """What a rehearsed plan does for the candidate. Raises `Trouble` where they would not sit as was asked."""
-    [(number, name, first)] = after.members(planned.first, [planned.number])
-    said, lacks = f"{number} {plain(name)} sits {first.paper}", "" if first.hall else " (has no desk)"
+    [(number, _, first)] = after.members(planned.first, [planned.number])
+    person = after.person(number).shown()
     if not planned.hall:
-        missed = after.clashes(planned.first, [planned.number]).get(planned.number, [])
+        missed = after.clashes(planned.first, [number]).get(number)
         others = len(after.members(planned.session))
-        return [f"{said} again{lacks}" + (f", and misses {', '.join(missed)}" if missed else ""),
-                f"session {planned.session} and paper {planned.paper} stay, "
-                + (f"with {lists.count(others, 'candidate')}" if others else "empty")]
-    [second] = after.members(planned.session, [planned.number])
+        said = lacking(Said(AGAIN, {"person": person, "paper": first.paper}), first)
+        return [Said(MISSES, {"what": said, "papers": missed}) if missed else said,
+                f"session {planned.session} and paper {planned.paper} stay, with {lists.count(others, 'candidate')}"
+                if others else f"session {planned.session} and paper {planned.paper} stay, empty"]
+    [second] = after.members(planned.session, [number])
     refuse_otherwise(planned, after, first, second)
     then = second.sitting
-    found = [planned.made, f"{said} until {first.finish}{lacks}, and {then.paper} from {then.start} to {then.finish} "
-                           f"in {then.hall}, desk {then.desk}"]
-    return [*found, *arranged(before, after, planned.number, planned.first, planned.session)]
+    said = Said(SITS, {"person": person, "first": first.paper, "finish": lacking(first.finish, first), "hall": then.hall,
+                       "paper": then.paper, "start": then.start, "end": then.finish, "desk": then.desk})
+    return [planned.made, said, *arranged(before, after, number, planned.first, planned.session)]
+
+
+def lacking(what: str | Said, sits: Sitting) -> str | Said:
+    return what if sits.hall else Said(LACKS, {"what": what})
 
 
 def arranged(before: Reading, after: Reading, number: str, first: str, session: str) -> list[Said]:

@@ -4,9 +4,8 @@ from collections.abc import Mapping, Sequence
 from typing import NamedTuple
 
 FEATURES = ["step-free", "screen", "reader", "small-room", "computer", "quiet"]  # the value of a place is 1, 2, 4 ..
-HIDDEN = {*range(0x20), *range(0x7f, 0xa0), 0x61c, 0x200e, 0x200f, *range(0x2028, 0x202f), *range(0x2066, 0x206a),
-          *range(0xd800, 0xe000)}  # the last are halves of letters, which no page can hold
-UNSHOWN = dict.fromkeys(HIDDEN, "?")
+UNSHOWN = dict.fromkeys([*range(0x20), *range(0x7f, 0xa0), 0x61c, 0x200e, 0x200f, *range(0x2028, 0x202f),
+                         *range(0x2066, 0x206a), *range(0xd800, 0xe000)], "?")  # the last are halves of letters
 
 
 class Said(NamedTuple):

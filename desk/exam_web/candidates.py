@@ -4,7 +4,7 @@ import sqlite3
 from collections.abc import Callable
 from functools import partial
 
-from flask import Blueprint, abort, g, redirect, render_template, request, url_for
+from flask import Blueprint, abort, redirect, render_template, request, url_for
 from werkzeug.datastructures import MultiDict
 from werkzeug.wrappers import Response
 
@@ -108,10 +108,10 @@ def slips(number: int | None = None) -> str:
     if brought:
         with at_field(("candidates.find", {}), "slips", "groups"):
             groups = files.texts_by_number(brought.stream.read(), brought.filename or "", *slip_pages.GROUP)
-        g.visit.said += [("", said(line)) for line in slip_pages.beside_groups(view().reading, groups)]
     of_one = [Session(session).code for session in [request.form.get("session", "")] if session]
     choice = slip_pages.Choice(of_one, only, "codes" in request.form, bool(only or of_one), groups)
-    return styled(slip_pages.page(view().reading, choice))
+    return styled(slip_pages.page(view().reading, choice),
+                  map(said, slip_pages.beside_groups(view().reading, groups)))
 
 
 @appeal_pages.get("/appeals", endpoint="page")
@@ -253,26 +253,16 @@ def decide(form: Form) -> Plan:
     return Plan(values, [step], page, "outcome")
 
 
-def second_plan(form: Form) -> Plan:
-    """A second sitting for a candidate with two papers at once."""
-    values, _ = candidate(form)
-    page: Page = ("clashes.second", {"code": Session(form.get("session", "")).code, "number": int(values["number"])})
-    asked = checked(page, form, paper="paper", start="start", hall="hall")
-    return of_second({**values, **asked}, page, "start",
-                     lambda: second_sitting.plan(view().reading, values["number"], **asked))
-
-
-def second_back(form: Form) -> Plan:
-    values, page = candidate(form, paper="paper")
-    return of_second(values, page, "paper",
-                     lambda: second_sitting.plan_back(view().reading, values["number"], values["paper"]))
-
-
-def of_second(values: Values, page: Page, name: str, make: Callable[[], second_sitting.Plan]) -> Plan:
-    """A plan as the command line makes it; what it refuses is said beside the field of this name."""
-    with at_field(page, "", name):
-        found = make()
-    return Plan(values, found.steps, page, name, {TROUBLE: name}, command=found.title, made_for=view().name,
+def of_second(make: Callable[..., second_sitting.Plan], names: list[str], beside: str, form: Form) -> Plan:
+    """A second sitting, or that it is taken back, as the command line makes it of the values of these names; what it
+    refuses is said beside one of their fields."""
+    values, page = candidate(form)
+    if "session" in form:  # it stands on the page of the two papers
+        page = "clashes.second", {"code": Session(form["session"]).code, "number": int(values["number"])}
+    values |= checked(page, form, **{name: name for name in names})
+    with at_field(page, "", beside):
+        found = make(view().reading, values["number"], *map(values.get, names))
+    return Plan(values, found.steps, page, beside, {TROUBLE: beside}, command=found.title, made_for=view().name,
                 look=partial(second_sitting.lines, found))
 
 
@@ -280,4 +270,6 @@ PLANS.update({
     **{do: partial(of_one, "paper", partial(command, do, ["number", "paper"])) for do in ("withdraw", "reinstate")},
     "enter": partial(of_one, "paper", partial(import_step, "entries")), "code": partial(of_one, "number", with_code),
     "arrangement": partial(of_one, "extra", partial(import_step, "arrangements")), "candidate": new_candidate,
-    "name": rename, "lodge": lodge, "decide": decide, "second": second_plan, "second-back": second_back})
+    "name": rename, "lodge": lodge, "decide": decide,
+    "second": partial(of_second, second_sitting.plan, ["paper", "start", "hall"], "start"),
+    "second-back": partial(of_second, second_sitting.plan_back, ["paper"], "paper")})

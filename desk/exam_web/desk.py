@@ -8,6 +8,7 @@ import sqlite3
 import threading
 import time
 import weakref
+from collections import Counter
 from collections.abc import Callable, Iterable, Sequence
 from concurrent.futures import Future, ThreadPoolExecutor
 from typing import Any, Concatenate, NamedTuple, ParamSpec, TypeVar
@@ -22,8 +23,8 @@ PATIENCE, LONG = 4, 3600  # seconds that a page, and a form, waits for the offic
 MANY, TURN = 200, 0.005  # candidates who are asked of at once, and the seconds that others have their turn then
 COPYING, COUNTING = "Its files are copied and read", "Candidates and desks are counted"
 ENTERED = "SELECT session, printf('%07d', number) FROM entry JOIN paper ON code = paper WHERE live = 1"
-AT_ONCE = f"{ENTERED} GROUP BY session, number HAVING count(*) > 1 ORDER BY session, number"
-UNSEATED = f"{ENTERED} EXCEPT SELECT session, printf('%07d', number) FROM seat"
+AT_ONCE = f"{ENTERED} GROUP BY session, number HAVING count(*) > 1"  # who has two live entries in a session
+UNSEATED = f"{ENTERED} EXCEPT SELECT session, printf('%07d', number) FROM seat"  # who has one, and no seat there
 Found = TypeVar("Found")
 Asked = ParamSpec("Asked")
 
@@ -108,26 +109,17 @@ class Sums(NamedTuple):
 @once
 def sums(view: View) -> dict[str, Sums]:
     """All sessions by code, in the order of their days."""
-    people, clashing = effects.figures(view.reading), two_papers(view)
+    people, clashing = effects.figures(view.reading), Counter(code for code, _ in sittings(view, AT_ONCE))
     desks = facts.desks(view.reading.rows)
     waiting = dict(view.rows("SELECT session, count(*) FROM appeal WHERE state = 1 GROUP BY session"))
-    return {code: Sums(code, day, start, *people[code], desks.get(code, 0), len(clashing.get(code, ())),
+    return {code: Sums(code, day, start, *people[code], desks.get(code, 0), clashing[code],
                        waiting.get(code, 0)) for code, day, start in facts.sessions(view.reading.rows)}
 
 
 @once
-def unseated(view: View) -> set[tuple[str, str]]:
-    """Who has a live entry in a session and no seat there: the session and the number."""
-    return {(code, number) for code, number in view.rows(UNSEATED)}
-
-
-@once
-def two_papers(view: View) -> dict[str, list[str]]:
-    """By session, if there are any, the numbers of those who have two live entries in it."""
-    found: dict[str, list[str]] = {}
-    for code, number in view.rows(AT_ONCE):
-        found.setdefault(code, []).append(number)
-    return found
+def sittings(view: View, query: str) -> set[tuple[str, str]]:
+    """What AT_ONCE, or UNSEATED, finds: of each the session and the number."""
+    return {(code, number) for code, number in view.rows(query)}
 
 
 class Desk:

@@ -5,7 +5,7 @@ import contextlib
 import hashlib
 import re
 import secrets
-from collections.abc import Callable, Iterator, Mapping
+from collections.abc import Callable, Iterable, Iterator, Mapping
 from typing import Any, NamedTuple
 
 from flask import current_app, g, redirect, request, url_for
@@ -17,11 +17,10 @@ from werkzeug.wrappers import Response
 from exam_desk import mistakes, on_paper, private, typed
 from exam_desk.office import Trouble
 from exam_web.desk import desk
-from exam_web.wording import said, text
+from exam_web.wording import language, said, text
 
 Form = MultiDict[str, str]
 Page = tuple[str, dict[str, Any]]  # an endpoint and its values
-SHEET_HINT = "; format the column as text"  # of cures, for who has a spreadsheet
 
 
 class Asked(NamedTuple):
@@ -77,8 +76,8 @@ def checked(page: Page, form: Form, **columns: str) -> dict[str, str]:
     """The values of fields, in the forms of columns; what is wrong stands at its field. A number may lack its zeros."""
     values = {name: form.get(name, "").strip() for name in columns}
     values |= {name: typed.number(values[name]) for name, column in columns.items() if column == "number"}
-    wrong = {name: text(mistakes.CURES[column].removesuffix(SHEET_HINT)) for name, column in columns.items()
-             if not mistakes.RIGHT[column](values[name].encode("utf-8", "surrogateescape"))}
+    wrong = {name: text(mistakes.CURES[column].removesuffix(typed.OF_A_SHEET)) for name, column in columns.items()
+             if not typed.is_right(column, values[name])}
     if wrong:
         raise Wrong(page, **wrong)
     return values
@@ -107,11 +106,13 @@ def keep(found: dict[str, Any], most: int, value: object) -> str:
     return key
 
 
-def styled(page: str) -> str:
-    """A sheet, whose own style the policy of this answer lets through, and no other."""
+def styled(page: str, said: Iterable[Markup] = ()) -> str:
+    """A sheet, whose own style the policy of this answer lets through, and no other. What is said of it stands above it
+    on the screen, and is not printed."""
     style = page[page.index("<style>") + len("<style>"):page.index("</style>")]
     g.style = f" 'sha256-{base64.b64encode(hashlib.sha256(style.encode()).digest()).decode()}'"
-    return page
+    lines = (Markup('<p role="status" lang="{}">{}</p>\n').format(language(), line) for line in said)
+    return page.replace("<body>\n", "<body>\n" + "".join(lines), 1)
 
 
 def attached(content: bytes, name: str, kind: str = "text/csv") -> Response:

@@ -52,6 +52,7 @@ class Upload:
     notes: list[Markup] = field(default_factory=list)
     workbooks: list[Book] = field(default_factory=list)
     columns: tuple[Mapping[str, Given], Way] | None = None  # what a file of columns says of all workbooks
+    broken: int = 0  # files of columns that cannot be read
     when: str = field(default_factory=lambda: datetime.datetime.now().isoformat(" ", "minutes"))
     is_called_list: bool = False  # a file or a sheet of entries is called withdrawals or reinstatements
     names: list[str] = field(default_factory=list)  # of the files, as the browser gave them
@@ -117,29 +118,30 @@ def take_zip(upload: Upload, name: str, stream: IO[bytes], way: Way) -> None:
 def take(upload: Upload, name: str, content: bytes, way: Way, most: int = files.MOST_BYTES) -> None:
     """Keeps one of the seven files, as an import takes it, or a file of columns; all else is to be a workbook."""
     first = next(files.records(content[:1 << 12]), None)
-    if why := refusal(name, content, most):
+    if why := refusal(upload, name, content, most):
         upload.note(name, why)
-    elif name.lower().endswith(".toml") and upload.columns:
-        upload.note(name, text("another file says already what headers mean: bring one alone"))
     elif name.lower().endswith(".toml"):
         try:
             upload.columns = read_columns("", content)
             upload.note(name, text("what it says of headers and words holds for the workbooks that come with it"))
         except Trouble as trouble:
             upload.note(name, said(trouble.sentence))
+            upload.broken += 1
     elif kind := next((kind for kind in files.HEADERS if files.is_header(kind, first)), None):
         upload.take(kind, content, name)
     else:
         upload.workbooks.append(Book(name[-MOST_NAME:], content, way))
 
 
-def refusal(name: str, content: bytes, most: int) -> Markup | None:
-    """Why a file is not looked through, as far as its name, its length and its first bytes say."""
+def refusal(upload: Upload, name: str, content: bytes, most: int) -> Markup | None:
+    """Why a file is not looked through, as far as its name, its length and its first bytes say, and what is there."""
     reasons = [
         (name.startswith(OPEN), text("it only says that a workbook is open: save and close that, then bring it")),
         (not content.strip(), text("it is empty: save it once more, then bring it again")),
         (name.lower().endswith(NO_TABLE), text("it is no table: bring what a spreadsheet saves as .xlsx, .ods or CSV")),
         (name.lower().endswith(".numbers"), text("Numbers wrote it: export it there as Excel or CSV, and bring that")),
+        (upload.columns is not None and name.lower().endswith(".toml"),
+         text("another file says already what headers mean: bring one alone")),
         (content.startswith(backups.OFFICE), text("it is an office: the page Office takes a backup back")),
         (len(content) > most, text("it has more than {most} bytes: split it", most=most))]
     return next((why for is_so, why in reasons if is_so), None)

@@ -28,7 +28,7 @@ from exam_desk.listed import OF_THE_OFFICE
 from exam_desk.office import Office, Stale, Trouble
 from exam_desk.reading import Reading
 from exam_desk.second_sitting import left_behind
-from exam_web.desk import AT_ONCE, PATIENCE, Desk, View, desk, office, sums, unseated, view
+from exam_web.desk import AT_ONCE, PATIENCE, UNSEATED, Desk, View, desk, office, sittings, sums, view
 from exam_web.forms import Asked, Form, Page, Wrong, attached, keep, lead
 from exam_web.wording import link, said, text
 
@@ -69,14 +69,14 @@ class Effects(effects.Effects):
         self.granted = [(now.person(row[0]), found) for row in now.rows.execute(OF_GRANTED).fetchall()
                         if tuple(row) not in arranged and (found := granted(now, row[0]))]
         self.clashing = [(code, now.member(code, person.number), missed) for code, person, missed in self.clashes]
-        short = set() if self.changes else unseated(after) - unseated(before)
+        short = set() if self.changes else sittings(after, UNSEATED) - sittings(before, UNSEATED)
         self.short = [(code, person) for code in are for person in effects.by_name(
             now, [number for session, number in short if session == code])][:MOST_ROWS]
         who: dict[str, list[Any]] = {kind: [each.number for each in part] for kind, part in self.kinds.items()} | {
             "over": list(self.over), "past": self.past, "opened": list(self.opened), "shut": self.shut,
             "short": [number for _, number in short],
             "clashes": [number for _, number in {(code, person.number) for code, person, _ in self.clashes}
-                        | {*map(tuple, after.rows(AT_ONCE))} - {*map(tuple, before.rows(AT_ONCE))}],
+                        | sittings(after, AT_ONCE) - sittings(before, AT_ONCE)],
             "twice": [person.number for _, people in self.overlaps for person in people],
             "halls": [(each.early, each.late, hall) for each, _ in self.overlaps for hall in each.halls],
             "codes": [person.number for person in self.codes]}
@@ -141,7 +141,8 @@ class Plan:
     def way_back(self) -> str:
         """The address of the page with the form; as long as nothing is done, all that was given is still in it."""
         endpoint, values = self.page if self.is_done else self.form_page or self.page
-        left = {} if self.is_done else {"again": self.key, "_anchor": self.asked.form}
+        place = "-".join(filter(None, [self.asked.form, self.asked.given.get("key")]))  # of the form
+        left = {} if self.is_done else {"again": self.key, "_anchor": place}
         return url_for(endpoint, **{**values, **left})
 
     def met(self) -> dict[str, tuple[int, int]]:
@@ -163,21 +164,21 @@ class Plan:
         return [(step.words[1], int(said[1]), int(said[3]), int(said[5])) for step, said in parts
                 if said[::2] == ["added", "changed", "same"]]
 
-    def refuse(self, line: str, explained: list[str]) -> None:
-        self.refusal, self.against = line, explained or [line]
+    def refuse(self, who: Office, answered: Answered) -> None:
+        self.refusal = answered.first_line()
+        self.against = answered.explained(who) or [self.refusal]
 
     def take(self, who: Office, answers: list[Answered]) -> None:
         """Keeps what the program said of the steps, and in words where it refuses the last."""
         self.answers = answers
         if refused := changing.refused_of(answers):
-            self.refuse(refused.first_line(), refusals.explained(who, refused.step.words, refused.ran.complaint,
-                                                                 refused.step.data))
+            self.refuse(who, refused)
 
     def grant(self, who: Office) -> list[Step]:
         """Lodges the appeal, and keeps its reference; gives the step that would grant it, none where it is refused."""
         lodged = lodging.lodge(who, self.lodge)
         if lodged.ran.status:
-            self.refuse(lodged.first_line(), lodged.explained(who))
+            self.refuse(who, lodged)
             return []
         self.lodged = lodged.first_line().split()[1]
         return [Step(("decide", self.lodge[0], self.lodged, "granted", ""))]

@@ -12,7 +12,7 @@ from exam_desk import appeals, changing, facts, logbook, notebook, on_paper, tur
 from exam_desk.telling import people_and_sittings
 from exam_desk.office import Trouble
 from exam_web import candidates
-from exam_web.desk import Sums, desk, office, sums, two_papers, unseated, view
+from exam_web.desk import AT_ONCE, UNSEATED, Sums, desk, office, sittings, sums, view
 from exam_web.forms import lead
 from exam_web.proposals import copy_key
 from exam_web.wording import days_until, text
@@ -45,7 +45,7 @@ def page() -> str:
     return render_template("season.html", sessions=found, weeks=weeks_of(found), attention=attention(found, is_whole),
                            is_whole=is_whole, deadlines=deadlines(found), most=MOST_SHOWN,
                            candidates=view().count("SELECT count(*) FROM candidate"),
-                           short=people_and_sittings([number for _, number in unseated(view())]),
+                           short=people_and_sittings([number for _, number in sittings(view(), UNSEATED)]),
                            widest=max((max(each.members, each.desks) for each in found), default=1))
 
 
@@ -115,14 +115,14 @@ def clashes(coming: list[Sums]) -> Iterator[Attention]:
     """How many have two papers at once and no appeal on it that is open or granted, and apart how many were refused."""
     states = {(code, number): state for code, number, state in view().rows(
         "SELECT session, printf('%07d', number), min(state) FROM appeal WHERE kind = 2 AND state <= 3 GROUP BY 1, 2")}
+    counts = Counter((code, states.get((code, number))) for code, number in sittings(view(), AT_ONCE))
     for each in coming:
         last = appeals.to_lodge("clash", each.day)
         level, day = "now" if days_until(last) <= URGENT else "soon", last if days_until(last) >= 0 else each.day
-        counts = Counter(states.get((each.code, number)) for number in two_papers(view()).get(each.code, ()))
         for state, what in UNHEARD.items():
-            if counts[state]:
+            if count := counts[each.code, state]:
                 yield Attention(level, day, what, url_for("clashes.page", session=each.code),
-                                {"count": counts[state], "session": each.code})
+                                {"count": count, "session": each.code})
 
 
 def next_days(coming: list[Sums]) -> tuple[list[Sums], list[Sums]]:

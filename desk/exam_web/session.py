@@ -2,9 +2,9 @@
 the forms that move it, its papers and its halls."""
 import math
 import sqlite3
-from collections.abc import Callable, Sequence
+from collections.abc import Sequence
 from functools import partial
-from typing import Any, NamedTuple
+from typing import Any
 
 from flask import Blueprint, abort, g, render_template, request
 from werkzeug.wrappers import Response
@@ -16,7 +16,7 @@ from exam_desk.overlaps import of_day
 from exam_desk.reading import Member
 from exam_desk.sheets import papers, slips
 from exam_desk.words import clock
-from exam_web.desk import View, desk, office, once, sums, two_papers, view
+from exam_web.desk import AT_ONCE, View, desk, office, once, sittings, sums, view
 from exam_web.forms import Form, Page, Wrong, at_field, attached, checked, lead, styled, tell_papers, whole
 from exam_web.proposals import APPEALS, PLANS, Plan, command, features, import_step
 from exam_web.wording import many, text
@@ -29,19 +29,10 @@ RUNNING = dict(zip(notebook.RUNNING, ("along the rows", "along and back", "down 
 MOST_SUPPOSED = 14  # desks in a row, where nobody said how many
 
 
-class Sheet(NamedTuple):
-    """A paper of a session, and the function that makes it."""
-    title: str
-    page: Callable[..., str]  # of a reading, a session and, where it is by hall, the halls: all where none is named
-
-
-SHEETS = {
-    "doors": Sheet("Invigilators' sheets to sign", papers.doors),
-    "poster": Sheet("Posters for doors", papers.poster),
-    "cards": Sheet("Desk cards", papers.cards), "chart": Sheet("Seating charts", papers.chart),
-    "slips": Sheet("Slips for candidates, with desk numbers", lambda reading, session: slips.page(
-        reading, slips.Choice(sessions=[session], desks=True))),
-    "board": Sheet("Notice board by name", papers.board), "counts": Sheet("Copies of each paper", papers.counts)}
+SHEETS = {  # what the papers of a session are called, by the command that prints each
+    "doors": "Invigilators' sheets to sign", "poster": "Posters for doors", "cards": "Desk cards",
+    "chart": "Seating charts", "slips": "Slips for candidates, with desk numbers", "board": "Notice board by name",
+    "counts": "Copies of each paper"}
 
 
 class Session:
@@ -77,7 +68,7 @@ class Session:
 
     def clashes(self, most: int) -> list[tuple[Member, list[str]]]:
         """Who has two papers at once, and which they miss, as the program says of those with two live entries."""
-        numbers = two_papers(view()).get(self.code, [])[:most]
+        numbers = sorted(number for code, number in sittings(view(), AT_ONCE) if code == self.code)[:most]
         missed = view().reading.clashes(self.code, numbers)
         return [(member, missed[member.number]) for member in view().reading.members(self.code, numbers)
                 if member.number in missed]
@@ -183,9 +174,12 @@ def sheet(code: str, sheet: str, hall: Sequence[str] = ()) -> str:
     """A sheet to print, of all halls or of some. A chart asks first how desks stand where nobody has said it."""
     shown = Session(code)
     halls = [shown.opening(each).hall for each in hall or request.args.getlist("hall")]
-    made = SHEETS.get(sheet) or abort(404)
+    if sheet not in SHEETS:
+        abort(404)
+    if sheet == "slips":
+        return styled(slips.page(view().reading, slips.Choice([code], desks=True)))
     try:
-        return styled(made.page(view().reading, code, *([halls] if sheet in on_paper.BY_HALL else [])))
+        return styled(getattr(papers, sheet)(view().reading, code, *([halls] if sheet in on_paper.BY_HALL else [])))
     except papers.NotDrawn as trouble:
         asked = map(shown.opening, trouble.halls)
         return render_template("charts.html", s=shown.sums, halls=[(each, standing(each)) for each in asked], of=halls)

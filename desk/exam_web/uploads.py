@@ -138,8 +138,9 @@ def look(key: str) -> str:
     found: Upload = g.visit.uploads.get(key) or abort(404)
     looked = looked_through(found)
     of_books = sum(book.mistakes for book in found.workbooks)
-    found.mistakes = sum(each.total for each in looked.values()) + of_books
-    stands = not of_books or not any(each.total for each in looked_through(found, alone=True).values())
+    found.mistakes = sum(each.total for each in looked.values()) + of_books + found.broken
+    stands = not found.broken and (
+        not of_books or not any(each.total for each in looked_through(found, alone=True).values()))
     return render_template("look.html", key=key, upload=found, looked=looked, stands=stands, headers=files.HEADERS,
                            words=HEADER_WORDS, most=MOST_SHOWN, most_lines=MOST_LINES)
 

@@ -2,6 +2,7 @@
 refuse_plans.py OFFICE PROGRAM. The office is the sample school. It needs Flask, and prints what is not as it must
 be."""
 import datetime
+import html
 import pathlib
 import re
 import sys
@@ -26,7 +27,7 @@ FORMS = {  # a form of each plan that the sample school takes, and the page that
     "lodge": ("/candidates/1051", {**WHO, "session": "TUE-AM", "kind": "hall", "wanted_hall": "AULA"}),
     "decide": ("/appeals/1051/D1", {**WHO, "ref": "D1", "outcome": "refused"}),
     "open": ("/sessions/MON-AM", {**MONDAY, "hall": "R14", "desks": "3", "until": "14:00"}),
-    "close": ("/sessions/MON-AM", {**MONDAY, "lost": "GYM"}),
+    "close": ("/sessions/MON-AM", {**MONDAY, "lost": "GYM", "key": "GYM"}),
     "session": ("/sessions/MON-AM", {**MONDAY, "at": "MON-AM", "date": "2027-06-09", "start": "10:00"}),
     "paper": ("/papers/CS-1", {"at": "MON-AM", "paper": "CS-1", "session": "TUE-AM", "title": "x", "minutes": "60"}),
     "hall": ("/sessions/MON-AM/halls/GYM", {"at": "MON-AM", "hall": "GYM", "title": "x"}),
@@ -96,6 +97,7 @@ def refused_late(browser, what):
     page = answer.headers["Location"]
     while "refresh" in shown(browser.client.get(page)):
         pass
+    leads_back(browser, what, page)
     ran = Ran(1, "", "refused 22\n")
     lodged = changing.Answered(changing.Step(("lodge",)), ran)
     with (mock.patch.object(changing, "run_patiently", return_value=ran),
@@ -104,6 +106,16 @@ def refused_late(browser, what):
     text = shown(browser.client.get(page))
     holds("It was refused, and the office is as it was" in text and sentence(22) in text and "/do" not in text,
           f"{what} refused late: {text[-300:]}")
+
+
+def leads_back(browser, what, page):
+    """*Not now* leads to the form as it was left: its place is called as the plan, and after the row that has it."""
+    back, place = re.search('<p class="crumbs"><a href="([^"#]+)#([^"]+)"', shown(browser.client.get(page))).groups()
+    key = FORMS[what][1].get("key")
+    holds(place == (f"{what}-{key}" if key else what), f"{what} leads back to {place}")
+    text = shown(browser.client.get(html.unescape(back)))
+    holds(text.count(f'id="{place}"') == 1 and "The form is as you left it" in text,
+          f"the page of {what} has {place} {text.count(place)} times")
 
 
 def main():

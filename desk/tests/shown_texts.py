@@ -18,8 +18,8 @@ from jinja2 import nodes
 
 DESK = pathlib.Path(__file__).resolve().parent.parent
 sys.path.insert(0, str(DESK))
-from exam_desk import (appeals, backups, copies, files, keeping, mistakes, reasons, refusals,  # noqa: E402
-                       second_sitting, words)
+from exam_desk import (appeals, backups, copies, files, keeping, logbook, mistakes, notebook, reasons,  # noqa: E402
+                       refusals, second_sitting, typed, words)
 from exam_desk.sheets import slips  # noqa: E402
 from exam_desk.workbook import cells, opening  # noqa: E402
 from exam_web import application, desk, forms, proposals, session, wording  # noqa: E402
@@ -32,7 +32,7 @@ RAISED = [call.args[0].value for path in (DESK / "exam_desk").glob("*.py")  # se
           and ast.unparse(call.func) == "Trouble" and isinstance(call.args[0], ast.Constant)]
 OTHERWISE = wording.LANGUAGES["en"].keys() & {*RAISED, keeping.RUNS, refusals.NO_CODE}  # said as no command says them
 SAID = [*refusals.SENTENCES.values(), *refusals.OTHER.values(), *OTHERWISE]
-CURES = [cure.removesuffix(forms.SHEET_HINT) for cure in mistakes.CURES.values()]
+CURES = [cure.removesuffix(typed.OF_A_SHEET) for cure in mistakes.CURES.values()]
 OPENED = [cells.PASSWORD, opening.NO_UTF_8, opening.NO_WORKBOOK, opening.OLD_FORM,  # why a file is not read
           backups.NO_OFFICE, backups.SEVERAL, backups.BROKEN, backups.TOO_LARGE]
 OF_COMMANDS = re.compile("header|column|first line|UTF-16|split it|^these are|file is empty|access code;|SELECT|NOTE|"
@@ -63,24 +63,28 @@ FORMED = [*mistakes.CURES.values(), mistakes.EMPTY_ROW, *(
           *filter(OF_KEEP.search, sentences(keeping)), "Address already in use",
           *filter(re.compile(r"^line |^a (row|\{0}) has|digits$|above$").search, sentences(files)),
           *filter(re.compile("^the file has|^in no group,").search, sentences(slips)),
-          *(f"{{0}} {word}" for word in ("number", "numbers", "candidate", "candidates"))]
+          *filter(re.compile(r"^session \{|^[^;]+ [^;]+; nothing is changed$").search, sentences(second_sitting)),
+          *filter(re.compile("^nothing is noted|nobody can have been").search, sentences(notebook)),
+          *filter(re.compile("is no candidate number").search, sentences(typed)),
+          *(f"{{0}} {word}" for word in ("number", "numbers", "candidate", "candidates", "desk", "desks", "(new)")),
+          "{0} and {1} more"]
 REASONS = [*(f"no {name}" for name in words.FEATURES), reasons.CLOSES + "{0}", "barred by a granted appeal", "suits",
            "but {0} of {1} desks are taken"]  # why a hall does not suit, parted at commas
 OWN = [*REASONS, proposals.OTHER_OFFICE, proposals.WRONG_DESK, proposals.COMPARING, proposals.LODGING]
 TABLES = {  # by what stands in the call
     "word": session.RUNNING.values(),
-    "sheet.title": [sheet.title for sheet in session.SHEETS.values()],
+    "title": session.SHEETS.values(),
     "appeals.KINDS[row.kind]": appeals.KINDS.values(), "appeals.STATES[row.state]": appeals.STATES.values(),
     "kind": appeals.KINDS.values(), "PROBLEMS[fault.code]": application.PROBLEMS.values(),
-    "str(stage)": [desk.COPYING, desk.COUNTING], "mistakes.CURES[column].removesuffix(SHEET_HINT)": CURES,
-    "v.kind": appeals.KINDS.values(),
+    "str(stage)": [desk.COPYING, desk.COUNTING], "mistakes.CURES[column].removesuffix(typed.OF_A_SHEET)": CURES,
+    "v.kind": appeals.KINDS.values(), "status": [logbook.BEGINS, logbook.STEP],
     "f'{date:%a}'": [f"{date:%a}" for date in DAYS], "f'{date:%b}'": [f"{date:%b}" for date in MONTHS],
 }
 SENTENCE = re.compile(r"[a-z]{2,} [a-z]{2,}.* [a-z]{2,}")
 SQL = re.compile(r"\s*(SELECT|FROM|WHERE|ORDER|JOIN|AND|GROUP|HAVING)\b|.*\b(SELECT|FROM entry|JOIN)\b")
 OF_STRANGERS = {"guard.py", "serving.py"}  # they speak to who is not in, and to the terminal
 PLAIN = {"examoffice", "csv", "aria", "invalid", "true", "describedby", "fault"}  # no words of a language
-NO_TEXTS = {forms.SHEET_HINT, "the form has all values"}  # what is taken away from a text; of an assertion
+NO_TEXTS = {"the form has all values"}  # of an assertion
 ATTRIBUTES = {"title", "placeholder", "aria-label", "alt", "data-busy", "data-working", "data-nothing"}
 found, lost = set(), []
 

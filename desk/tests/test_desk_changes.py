@@ -180,7 +180,7 @@ class TestSecondSitting(DeskSchool):
         page, _ = self.browser.post("/propose/second", self.PAGE, **self.FORM, paper="LAT", start="11:00")
         promised = self.browser.words(page)
         self.assertIn("session MON-AM-2 (new) at 11:00, paper LAT-2 (new), hall R14 with 1 desk", promised)
-        self.assertIn("sits CS-1 until 11:00, and LAT-2 from 11:00 to 12:30 in R14, desk 1", promised)
+        self.assertIn("sits CS-1 until 11:00 , and LAT-2 from 11:00 to 12:30 in R14 , desk 1", promised)
         self.assertEqual(self.seats(), before)
         self.browser.post(page + "/do", page)
         self.assertIn("What changed", self.browser.words(page))

@@ -19,6 +19,8 @@ class TestLostHall(DeskSchool):
             both, _ = self.browser.post("/propose/close", page, session="MON-AM", lost="GYM", hall=hall, desks="60",
                                         until="14:00", proposal=page.rsplit("/", 1)[1])
             self.assertEqual(self.button(both), said)
+            back = re.search('<p class="crumbs"><a href="([^"#]+)#close"', self.browser.get(both))[1]
+            self.assertEqual(self.browser.get(back.removeprefix(self.browser.prefix)).count('id="close"'), 1)
 
     def button(self, page):
         found = re.search('<button class="primary big">(.*?)</button>', self.browser.get(page))[1]

@@ -272,6 +272,27 @@ class TestHearing(DeskSchool):
         self.assertRegex(text, r'Number: seven digits <a href="#fault-candidate-number">To the field</a>'
                                r'<br>Name: 1 to 80 letters [^<]*<a href="#fault-candidate-name">')
 
+    def test_what_is_wrong_names_its_field(self):
+        self.office("lodge", "0001119", "MON-AM", "arrangement", "-", "25", "")
+        monday = {"session": "MON-AM", "desks": "1", "until": "12:00"}
+        for where, page, values, said in (
+                ("/propose/lodge", "/candidates/1000", {"number": "0001000", **monday, "kind": "arrangement",
+                 "wanted_extra": "x"}, "Extra time: a whole number from 0 to 100"),
+                ("/propose/open", "/sessions/MON-AM", {**monday, "new_hall": "TENT"}, "Title: 1 to 80 letters"),
+                ("/propose/decide", "/appeals/1119/D1", {"number": "0001119", "ref": "D1"}, "Decide: choose one"),
+                ("/sessions/MON-AM/draw", "/sessions/MON-AM/halls/GYM", {"hall": "GYM", "across-GYM": "0"},
+                 "Desks in a row GYM: a whole number from 1 to 100")):
+            text = re.sub("</?bdi>", "", self.browser.post(where, page, 422, **values)[1])
+            self.assertIn(f"Nothing was done: {said}", text.partition('role="alert">')[2], where)
+
+    def test_each_field_has_a_word(self):
+        """But for those whose sentence says what to tick or to choose."""
+        text = "".join(path.read_text("utf-8") for path in (DESK / "exam_web/templates").glob("*.html"))
+        fields = {*re.findall(r'\baria\("([a-z_]+)"|\bfield\(_\("[^"]+"\), "([a-z_]+)', text)}
+        known = re.findall('"([a-z_ ]+)": _', text.partition("macro column_word")[2].partition("endmacro")[0])
+        self.assertGreater(len(fields), 20)
+        self.assertEqual({*map("".join, fields)} - {*known}, {"tick", "lost", "choice"})
+
 
 HELP = r'<a href="([^"]+/handbook)#([^"]+)">([^<]+)</a>'
 HANDBOOK = (TOP / "docs/HANDBOOK.md").read_text("utf-8")

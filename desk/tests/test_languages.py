@@ -1,13 +1,15 @@
 """The texts of the desk in a browser: each language has each text that a page can show, with its values."""
 import html
+import itertools
 import json
 import pathlib
 import re
 import subprocess
 import unittest
+import urllib.parse
 
-from desk_client import HAS_FLASK, PYTHON, DeskSchool
-from sample import DESK
+from desk_client import HAS_FLASK, MARK, PYTHON, DeskSchool
+from sample import DESK, KINDS
 
 SAY = """
 import flask, sys
@@ -17,6 +19,13 @@ with flask.Flask("x").test_request_context(headers={"Accept-Language": "de"}):
     print(*map(wording.said, sys.argv[2:]), sep="\\n")
 """
 FINDER = pathlib.Path(__file__).parent / "shown_texts.py"
+GERMAN = {"Accept-Language": "de-AT,de;q=0.9,en;q=0.5"}
+MARKED = r'<(\w+)\b[^>]* lang="en".*?</\1>|<code.*?</code>'  # what says that it is English, and the headers of files
+SAID = r' (?:title|placeholder|aria-label|data-busy|data-working|data-nothing)="([^"]*)"|>([^<]*)<'
+
+
+def words(texts):
+    return {word for text in texts for word in re.findall(r"[^\W\d_]{2,}", text.lower())}
 
 
 @unittest.skipUnless(HAS_FLASK, "Flask or waitress is missing")
@@ -63,7 +72,7 @@ class TestGerman(DeskSchool):
                             ("/files", "Dateien"), ("/sessions/MON-AM", "Sitzpläne"), ("/clashes", "Zweite Sitzung"),
                             ("/clashes", "Mo 7. Juni"), ("/sessions/MON-AM/halls/PC1", "hin und zurück"),
                             ("/nothing", "Nicht hier"), ("/office", "Protokoll")):
-            answer, text = self.browser.ask("GET", path, headers={"Accept-Language": "de-AT,de;q=0.9,en;q=0.5"})
+            answer, text = self.browser.ask("GET", path, headers=GERMAN)
             self.assertIn(words, html.unescape(text))
             self.assertIn('lang="de"', text)
 
@@ -72,6 +81,73 @@ class TestGerman(DeskSchool):
         _, text = self.browser.ask("GET", "/sessions/MON-AM", headers={"Accept-Language": "de"})
         self.assertNotIn("Have", text)
         self.assertIn("11", text.partition('class="remedies"')[2].partition("</ul>")[0])
+
+
+class TestNoEnglish(DeskSchool):
+    """On the day of MON-AM and of MON-PM, in German."""
+
+    def start(self):
+        self.environment["TODAY"] = "2027-06-07"
+        super().start()
+
+    def page(self, path, **form):
+        """A page, or what a form leads to; that no word in it is English which is not marked so."""
+        form |= {"mark": re.search(MARK, self.browser.get("/office"))[1]} if form else {}
+        answer, text = self.browser.ask("POST" if form else "GET", path, urllib.parse.urlencode(form), GERMAN)
+        if where := answer.headers["Location"]:
+            return self.page(where.removeprefix(self.browser.prefix).partition("#")[0])
+        if '"refresh"' in text:
+            return self.page(path)
+        self.assertEqual(self.english(text), set(), path)
+        return html.unescape(re.sub(r"\s+", " ", re.sub("<[^>]+>", "", text)))
+
+    @staticmethod
+    def english(text):
+        """The words that stand in no German text; but for those in codes, and in the names of the seven files."""
+        table = json.loads((DESK / "exam_web/languages/de.json").read_text("utf-8"))
+        said = itertools.chain(*re.findall(SAID, re.sub(MARKED, "><", text, flags=re.S)))
+        return words(map(html.unescape, said)) & (words(table) - words(table.values()) - words([*KINDS, "MON TUE"]))
+
+    def test_what_is_English_is_marked(self):
+        self.assertEqual(self.english('<a title="To the page">and</a><bdi lang="en">the</bdi>'), {"to", "the", "page", "and"})
+        self.office("withdraw", "0001051", "EN-1")
+        self.run_office("lodge", "0001051", "TUE-AM", "arrangement", "quiet", "25", "", TODAY="2027-05-01")
+        self.office("printed", "MON-AM")
+        self.page("/office/school", name="Hill")
+        copy = re.search(r"/office/copies/\w+", self.browser.get("/office"))[0]
+        for path in ("/", "/?all=1", "/sessions/MON-AM", "/sessions/MON-AM/halls/PC1", "/sessions/MON-AM/printed",
+                     "/sessions/MON-AM/print/chart", "/candidates", "/candidates?q=zzz", "/candidates/1051", "/appeals",
+                     "/appeals/1051/D1", "/appeals/1051/D1/if-granted", "/clashes", "/clashes/MON-AM/1051", "/overlaps",
+                     "/papers/CS-1", "/files", "/office", copy, "/handbook", "/nothing", "/enter"):
+            self.page(path)
+        self.page("/propose/lodge", number="0001051", session="MON-AM", kind="hall", wanted_hall="PC1")  # it is refused
+        self.page("/propose/close", session="TUE-AM", lost="GYM")
+        self.page("/office/keep", what="start", port="x")
+
+    def test_second_sittings(self):
+        form = {"number": "0001051", "session": "MON-AM", "paper": "LAT", "start": "11:00", "hall": "R14"}
+        said = self.page("/propose/second", **form)
+        self.assertIn("Termin MON-AM-2 (neu) um 11:00, Prüfung LAT-2 (neu), Raum R14 mit 1 Platz", said)
+        self.assertIn("0001051 Di Berg schreibt CS-1 bis 11:00 und LAT-2 von 11:00 bis 12:30 in R14, Platz 1", said)
+        for values, wrong in (({"start": "10:30"}, "0001051 schreibt CS-1 bis 11:00: dann oder später beginnen"),
+                              ({"paper": "CS-1", "start": "10:30"}, "0001051 hätte in R14 keinen Platz (kein computer)"),
+                              ({"paper": "PH-1"}, "0001051 hat keine andere Prüfung an TUE-AM"),
+                              ({"hall": "ZZ"}, "das Büro hat keinen Raum ZZ")):
+            self.assertIn(wrong, self.page("/propose/second", **{**form, **values}))
+        self.office("second-sitting", "0001051", "LAT", "11:00", "R14", "--yes")
+        said = self.page("/propose/second-back", number="0001051", paper="LAT", key="LAT")
+        self.assertIn("0001051 Di Berg schreibt wieder CS-1 und versäumt LAT", said)
+        self.assertIn("Termin MON-AM-2 und Prüfung LAT-2 bleiben, leer", said)
+
+    def test_absences(self):
+        for numbers, wrong in (("", "nichts ist vermerkt: es steht keine Nummer da"),
+                               ("9999999 8", "nichts ist vermerkt: 9999999, 0000008: kein Prüfling von MON-AM"),
+                               ("x", "'x' ist keine Nummer eines Prüflings")):
+            self.assertIn(wrong, self.page("/sessions/MON-AM/absent", numbers=numbers))
+        self.page("/sessions/MON-AM/absent", numbers="1051")
+        self.assertIn("nichts ist vermerkt, denn diese sind abwesend: 0001051",
+                      self.page("/sessions/MON-AM/absent", nobody="1"))
+        self.assertIn("TUE-AM ist am 2027-06-08: vor diesem Tag", self.page("/sessions/TUE-AM/absent", numbers="1051"))
 
 
 if __name__ == "__main__":

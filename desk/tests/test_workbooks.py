@@ -2,7 +2,9 @@
 from __future__ import annotations
 
 import concurrent.futures
+import contextlib
 import csv
+import functools
 import json
 import os
 import pathlib
@@ -17,13 +19,18 @@ import sample
 
 HERE = pathlib.Path(__file__).resolve().parent / "workbooks"
 sys.path.append(str(HERE))
+import cases  # noqa: E402
 import corpus  # noqa: E402
+import harder  # noqa: E402
+import odd  # noqa: E402
 import rawbook  # noqa: E402
 from exam_desk.mistakes import Known  # noqa: E402
 from exam_desk.office import Trouble  # noqa: E402
-from exam_desk.workbook import opening  # noqa: E402
+from exam_desk.workbook import cells, child, opening  # noqa: E402
 from exam_desk.workbook.cells import Sheet, packed, unpacked  # noqa: E402
-from exam_desk.workbook.reading import Reading, mend_folder, workbook_of, write_folder, write_kind  # noqa: E402
+from exam_desk.workbook.headers import read_columns  # noqa: E402
+from exam_desk.workbook.reading import (Reading, mend_folder, read_book, workbook_of, write_folder,
+                                        write_kind)  # noqa: E402
 from exam_desk.workbook.tables import Job, Report, together  # noqa: E402
 
 AT_A_TIME = 4
@@ -101,6 +108,16 @@ class Child(unittest.TestCase):
         with self.assertRaisesRegex(Trouble, "MemoryError"):
             self.with_child(body)
 
+    def test_its_time_ends(self) -> None:
+        with mock.patch.object(opening, "MOST_SECONDS", 0.2), self.assertRaisesRegex(Trouble, "more than 0.2 seconds"):
+            self.with_child("import time; time.sleep(60)")
+
+    def test_debian_has_what_this_python_lacks(self) -> None:
+        with mock.patch("importlib.util.find_spec", return_value=None), mock.patch.object(opening, "PYTHON", "/bin/echo"):
+            self.assertEqual(f"-B {opening.CHILD} write\n", opening.ask_child("write", b"").decode())
+            with mock.patch.object(opening, "PYTHON", "/none"):  # another system may have none
+                self.assertIn(b"cut short", opening.ask_child("read", b""))
+
     def test_no_file_can_be_written(self) -> None:
         body = (HERE.parent.parent / "exam_desk/workbook/child.py").read_text("utf-8")
         with tempfile.TemporaryDirectory() as folder:
@@ -112,6 +129,66 @@ class Child(unittest.TestCase):
     def test_a_workbook_goes_over_as_it_is(self) -> None:
         book = opening.read_csv("number,name\n17,\"Ada \u00e9 \u202e\nLin\"\n".encode(), "list")
         self.assertEqual(book, unpacked(packed(book)))
+
+
+class Limits(unittest.TestCase):
+    """What no school has is refused by the first limit that it passes. `bombs` has the same at full size."""
+
+    def refused(self, sentence: str, data: bytes, module: str = "cells", **limits: object) -> None:
+        """Of a workbook that is read under other limits."""
+        with contextlib.ExitStack() as stack:
+            for name, value in limits.items():
+                stack.enter_context(mock.patch(f"exam_desk.workbook.{module}.{name}", value))
+            self.assertRegex(child.read(data).decode(), f'^"[^"]*{sentence}')
+
+    def with_sheet(self, xml: str) -> bytes:
+        return rawbook.xlsx(cases.candidates(cases.ADA), parts={"xl/worksheets/sheet1.xml": xml})
+
+    def test_what_a_zip_holds_has_limits(self) -> None:
+        few, short = functools.partial(cells.Budget, 5), functools.partial(cells.Budget, 50, 60)
+        empty, long = 6 * "<c/>", f'<c t="inlineStr"><is><t>{51 * "x"}</t></is></c>'
+        repeated = '<table:table-cell table:number-columns-repeated="6"><text:p>x</text:p></table:table-cell>'
+        two = rawbook.xlsx(cases.candidates(cases.ADA), cases.sheet("Halls", cases.HALLS))
+        tables = 2 * '<table:table table:name="x"/>'
+        self.refused("come out of it", self.with_sheet("<worksheet/>"), MOST_UNPACKED=100)
+        self.refused("has no end", self.with_sheet(f"<worksheet>{300_000 * ' '}</worksheet>"), MOST_QUIET=200_000)
+        self.refused("100 elements", self.with_sheet(f"<worksheet>{100 * '<a/>'}</worksheet>"), MOST_TAGS=100)
+        self.refused("it has more than", self.with_sheet(harder.sheet_xml(f"<row>{empty}</row>")), Budget=few)
+        self.refused("MB of letters", self.with_sheet(harder.sheet_xml(f"<row>{long}</row>")), "xlsx", Budget=short)
+        self.refused("it has more than", rawbook.ods(f'<table:table table:name="x">{rawbook.ods_row(repeated)}</table:table>'),
+                     "ods", Budget=few)
+        self.refused("more than 1 sheets", two, "xlsx", MOST_SHEETS=1)
+        self.refused("more than 1 sheets", rawbook.ods(tables), "ods", MOST_SHEETS=1)
+        self.refused("asks for more than 1 GB", two, "xlsx", parse=mock.Mock(side_effect=MemoryError))
+
+    def test_what_is_no_workbook_is_refused(self) -> None:
+        letter = odd.changed(rawbook.ods(""), "content.xml", "office:spreadsheet", "office:text")
+        self.refused("it is a document of another kind", letter)
+        self.refused("a part of it is broken .ExpatError", self.with_sheet("<worksheet><sheetData>"))
+        with mock.patch.object(opening, "MOST_FILE", 9), self.assertRaisesRegex(Trouble, "it is larger than"):
+            opening.book_of(b"number,nam", "candidates.csv")
+        with self.assertRaisesRegex(Trouble, "cannot be read: it is no file"):
+            opening.open_book(str(HERE))
+
+    def test_merged_cells_have_a_limit(self) -> None:
+        book = unpacked(child.read(rawbook.xlsx(cases.candidates(cases.ADA, [], [], cases.BO, merge=["A2:A3", "B2:B4"]))))
+        with mock.patch("exam_desk.workbook.rows.MOST_MERGED", 2), self.assertRaisesRegex(Trouble, "cells cover more than 2 rows"):
+            read_book(book, Job(Known()))
+
+
+class Columns(unittest.TestCase):
+    def test_a_file_of_columns_that_says_something_else_is_refused(self) -> None:
+        for text, said in (('dates = "first"', "dates is day-first or month-first"), ("halls = 1", "halls is none of the"),
+                           ('[halls]\nfeatures = { always = "big" }', "features: write { always = "),
+                           ('[halls]\nhall = ["A", "B"]', "only names and titles have several"),
+                           ('[halls]\nsheet = { always = "A" }', "sheet: write a header"), ("words = 1", "write a table such"),
+                           ("[words.room]\na = 'b'", "room is no column"), ("[words]\nhall = 1", "hall is no column"),
+                           ("[words.start]\nnoon = 12", "12 is no value of start"),
+                           ("[words.start]\nnoon = '12'", "'12' is no value of start")):
+            with self.subTest(text), self.assertRaises(Trouble) as raised:
+                read_columns("c.toml", text.encode())
+            self.assertEqual("c.toml", raised.exception.place)
+            self.assertIn(said, raised.exception.sentence)
 
 
 class Told(unittest.TestCase):
@@ -142,6 +219,16 @@ class Told(unittest.TestCase):
         self.assertEqual(found[0], "'Form 1'!B2, B5, B8, B11, B14 and 15 more: start 2:00 became 02:00; 20 times")
         self.assertEqual([line for line in found if ": date" in line],
                          [f"'Form 1'!C{2 * day}:C{2 * day + 1}: date {day}; 2 times" for day in range(1, 31)])
+
+    def test_each_date_and_each_reason_has_a_line(self) -> None:
+        days = [f"{day}/2027" for day in ("14/06", "21/06", "28/06", "19/07", "26/07")]  # all of them Mondays
+        numbers = [*(f"{number}" for number in range(11, 15)), *(f"'{number}" for number in range(21, 25))]
+        book = rawbook.xlsx(cases.sheet("Sessions", cases.SESSIONS, *([f"S{day[:2]}", day, "09:00"] for day in days)),
+                            cases.sheet("Candidates", cases.CANDIDATES, *([each, "Ada", f"CODE00{each[-2:]}"] for each in numbers)))
+        told = [line.whole() for line in together(read_book(unpacked(child.read(book)), Job(Known())).report.lines)]
+        self.assertEqual([f"Sessions!B2: date {days[0]} became 2027-06-14 (Monday, 14 June 2027, as there is no month 14)",
+                          *(f"Sessions!B{row}" for row in range(3, 7)), "Candidates!A2:A5", "Candidates!A6:A9"],
+                         [told[0], *(line.partition(":")[0] for line in told[1:5]), *(line.rpartition(": ")[0] for line in told[5:7])])
 
     def test_what_differs_stands_apart(self) -> None:
         other = Sheet("Form 2")

@@ -167,8 +167,7 @@ class Parts:
                 quiet = quiet + len(piece) if self.tags == before else 0
                 if quiet > MOST_QUIET:
                     raise Trouble("a piece of its XML has no end: it is no workbook of a school")
-                if cells > MOST_CELLS:
-                    Budget().keep("", cells)
+                Budget().keep("", cells)
                 if self.tags < 0:
                     raise Trouble(f"it has more than {MOST_TAGS:,} elements: it is no workbook of a school")
         parser.Parse(b"", True)

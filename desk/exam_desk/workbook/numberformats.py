@@ -45,7 +45,7 @@ def number_cell(raw: str, form: str, epoch: datetime.datetime = WINDOWS) -> Cell
     if abs(number) > MOST_NUMBER:
         return Cell("number", f"{number:.5E}", f"{number:.5E}")
     kind = kind_of(form)
-    if kind in ("date", "time", "elapsed"):
+    if kind in ("moment", "elapsed"):
         return moment_cell(number, form, kind, epoch)
     tidy = decimal.Context(prec=15).create_decimal(number * 100 if kind == "percent" else number).normalize()
     plain = format(tidy, "f") if tidy else "0"  # beyond fifteen digits is noise of binary numbers
@@ -55,18 +55,18 @@ def number_cell(raw: str, form: str, epoch: datetime.datetime = WINDOWS) -> Cell
             return Cell("unseen", plain, "") if tidy else None
     except Unknown:
         shown = f"{float(number):.2E}" if form == BUILT_IN[11] else ""
-    return Cell("percent", f"{plain}%", shown or f"{plain}%") if kind == "percent" else Cell("number", plain, shown)
+    return Cell("percent", f"{plain}%", shown) if kind == "percent" else Cell("number", plain, shown)
 
 
 def moment_cell(number: decimal.Decimal, form: str, kind: str, epoch: datetime.datetime) -> Cell:
-    """The cell of a number under a format of dates or of times."""
+    """The cell of a number under a format of dates or of times: below 1 it is a time."""
     seconds = round(number * 86_400)
     if kind == "elapsed":
         return Cell("time", clock_text(seconds), "")
     if not 0 <= number < LAST_SERIAL:
         return Cell("number", str(number), "")
     when = epoch + datetime.timedelta(seconds=seconds)
-    if kind == "date" or number >= 1:
+    if number >= 1:
         return Cell("date", whole_day(when.isoformat()), painted(form, when))
     return Cell("time", clock_text(seconds), painted(form, when))
 
@@ -84,18 +84,16 @@ def sections(form: str) -> list[list[str]]:
 
 @functools.cache
 def kind_of(form: str) -> str:
-    """What a number format makes of a number: date, time (of day), elapsed (time), percent or number."""
+    """What a number format makes of a number: a moment, a time that elapsed, a percentage or a number."""
     tokens = sections(form)[0]
     bare = "".join(token for token in tokens if token[0] not in '"\\_*[').lower()
     if "%" in bare:
         return "percent"
-    if bare in ("general", "@") or re.search("[0#?]", re.sub(r"s[.,]0+", "s", bare).replace("yy?", "yy")):
+    if "general" in bare or bare == "@" or re.search("[0#?]", re.sub(r"s[.,]0+", "s", bare).replace("yy?", "yy")):
         return "number"
-    elapsed = any(re.fullmatch(r"\[(h+|m+|s+)\]", token, re.I) for token in tokens)
-    clock = elapsed or re.search("[hs]", bare)
-    if re.search("[ydgeb]|mmm", bare) or "m" in bare and not clock:
-        return "date"
-    return "elapsed" if elapsed else "time" if clock else "number"
+    if any(re.fullmatch(r"\[(h+|m+|s+)\]", token, re.I) for token in tokens):
+        return "elapsed"
+    return "moment" if re.search("[ydgebmhs]", bare) else "number"
 
 
 def shown_number(form: str, number: decimal.Decimal) -> str:
@@ -103,13 +101,13 @@ def shown_number(form: str, number: decimal.Decimal) -> str:
     parts = sections(form)
     if locale_of(form) >= OTHER_DIGITS or any(re.match(r"\[[<>=]", token) for part in parts for token in part):
         raise Unknown(form)
-    numeric = parts[:3] if len(parts) > 1 or "@" not in parts[0] else [[GENERAL]]
+    numeric = parts[:3] if "@" not in parts[0] else [[GENERAL]]
     place = 0 if number > 0 else 1 if number < 0 else 2
     section = numeric[place] if place < len(numeric) else numeric[0]
     if not "".join(section).strip() and len(parts) > 1:
         return ""
     pieces = [shown_token(token, abs(number)) for token in section or [GENERAL]]
-    if sum(token.lower() == "general" or token[0] in "0#?" for token in section) > 1:
+    if sum(token[0] in "0#?" for token in section) > 1:
         raise Unknown(form)
     return ("-" if number < 0 and place >= len(numeric) else "") + "".join(pieces).strip()
 
@@ -118,7 +116,7 @@ def literal(token: str) -> str:
     """The letters that a piece of a number format shows whatever the cell holds; raises `Unknown`."""
     if token[0] == "[":
         return token[2:-1].split("-")[0] if token.startswith("[$") else ""
-    if len(token) > 1 and token[0] in '_*"\\':
+    if token[0] in '_*"\\':
         return {"_": " ", "*": "", '"': token.strip('"'), "\\": token[1:]}[token[0]]
     if token not in " -+/():!^&'~{}<>=$€£%":
         raise Unknown(token)
@@ -128,7 +126,7 @@ def literal(token: str) -> str:
 def shown_token(token: str, number: decimal.Decimal) -> str:
     """What a piece of a number format shows; raises `Unknown`."""
     if token.lower() == "general":
-        return f"{float(number):.5E}" if number >= LONG_NUMBER else format(number, "f") if number else "0"
+        return f"{float(number):.5E}" if number >= LONG_NUMBER else format(number, "f")
     if token[0] not in "0#":
         return literal(token)
     match = DIGITS.fullmatch(token.replace("#,##", "#,"))
@@ -143,8 +141,6 @@ def shown_token(token: str, number: decimal.Decimal) -> str:
 
 def text_cell(text: str, form: str) -> Cell:
     """The cell of a text under a number format, which may show nothing of it."""
-    if form in (GENERAL, "@"):
-        return Cell("text", text, text)
     parts = sections(form)
     section = parts[3] if len(parts) > 3 else next((part for part in parts if "@" in part), ["@"])
     try:
@@ -166,7 +162,7 @@ def painted(form: str, when: datetime.datetime) -> str:
     if locale_of(form) & ~COUNTRY not in (0, ENGLISH):
         return ""
     known = PAINTED | ({"h": "%-I", "hh": "%I"} if "am/pm" in words else {})
-    letters = "".join(word[0] if word[0] in "ymdhs" else " " for word in words)
+    letters = "".join(word[0] for word in words)
     for near in ("h[^hsdy]*", "[^hsdy]*s"):  # behind hours and before seconds a month is a minute
         letters = re.sub(near, lambda match: match[0].replace("m", "n"), letters)
     words = [word.replace("m", letter) if word in ("m", "mm") else word for word, letter in zip(words, letters)]

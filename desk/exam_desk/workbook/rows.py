@@ -75,7 +75,7 @@ class Table(Headed):
         round the days up to the 12th, and left the others as text."""
         [place, *_] = self.header.columns.get("date", [0])
         cells = [(row, cells[place]) for row, cells in self.below().items() if place in cells]
-        texts = [row for row, cell in cells if cell.kind == "text" and AS_TEXT.fullmatch(bare(cell.text))]
+        texts = [row for row, cell in cells if AS_TEXT.fullmatch(bare(cell.text))]
         for row, cell in cells if texts else ():
             if cell.kind == "date" and cell.text[8:10] <= "12":
                 beside = place_name(self.sheet, texts[0], place)
@@ -115,10 +115,10 @@ class Table(Headed):
         """The rows that are read, each with its cells of the table; of those that are left a line says why."""
         below, data = self.below(), self.places()
         last = max((row for row, cells in below.items() if not data.isdisjoint(cells)), default=0)
-        head = {place: folded(cell.text) for place, cell in self.head.items() if place in data}
+        head = {place: folded(cell.text) for place, cell in self.head.items()}
         for row, cells in below.items():
             own = {place: seen(cells.get(place)) for place in data}
-            here = {place: cell or filled.get((row, place)) for place, cell in own.items()} if filled else own
+            here = {place: cell or filled.get((row, place)) for place, cell in own.items()}
             if not any(own.values()):
                 for place in [place for place in sorted(cells) if seen(cells[place])][:1]:
                     text = f"{shown_of(cells[place])!r} stands beside empty columns; the row is not read"
@@ -229,4 +229,4 @@ class Table(Headed):
 @functools.lru_cache(1 << 16)
 def says_total(cell: Cell | None) -> bool:
     """Whether a cell says that its row is a total, such as `Total`, `Summe der Plätze` or `Sum: 24`."""
-    return cell is not None and cell.kind == "text" and TOTAL.fullmatch(bare(cell.text[:100]).lower()) is not None
+    return cell is not None and TOTAL.fullmatch(bare(cell.text[:100]).lower()) is not None

@@ -58,9 +58,10 @@ for (const each of document.querySelectorAll("[data-load]:not(details)")) load(e
 // a link to a hall opens it; where there are few, the first is open
 function open() {
   const place = location.hash.length > 1 && document.getElementById(location.hash.slice(1));
-  if (place && place.tagName === "DETAILS") {
-    place.open = true;
-    place.scrollIntoView();
+  const hall = place && place.closest("details[data-load]");
+  if (hall) {
+    hall.open = true;
+    hall.scrollIntoView();
   }
 }
 addEventListener("hashchange", open);

@@ -85,7 +85,7 @@ case("dates-of-machines", xlsx(sheet("Sessions", SESSIONS, ["S1", ("n", "46539",
 case("dates-out-of-range", xlsx(sheet("Sessions", SESSIONS, ["S1", ("n", "20270601", DATE), "09:00"], ["S2", ("n", "-5", DATE), "09:00"],
                                       ["S3", ("n", "0", DATE), "09:00"], ["S4", ("n", "36000", DATE), "09:00"], ["S5", ("n", "46539.5", DATE), "09:00"],
                                       ["S6", 20271301, "09:00"], ["S7", "2027-02-30", "09:00"], ["S8", ("n", "1e9", DATE), "09:00"])), 1, only=True,
-     mistakes=[["Sessions!B2"], ["Sessions!B3"], ["Sessions!B4"], ["Sessions!B5"], ["Sessions!B6", "12:00"], ["Sessions!B7"], ["Sessions!B8"],
+     mistakes=[["Sessions!B2"], ["Sessions!B3"], ["Sessions!B4", "30/12/1899"], ["Sessions!B5"], ["Sessions!B6", "12:00"], ["Sessions!B7"], ["Sessions!B8"],
                ["Sessions!B9"]])
 case("dates-turned-two-digits", xlsx(sheet("Sessions", SESSIONS, ["S1", ("n", "46539", DATE), "09:00"], ["S2", "13/06/27", "09:00"],
                                            ["S3", ("n", "46560", DATE), "09:00"])), 1, only=True,
@@ -133,7 +133,8 @@ case("covered-by-nothing", xlsx(candidates(ADA, [None, "Bo Berg", "CODE0002"], [
 case("merged-over-columns", xlsx(candidates(["0000001", None, "CODE0001"], merge=["A2:B2"])), 1, mistakes=[["Candidates!A2", "A2:B2"]])
 case("merged-crosses", xlsx(TWO_PAPERS, sheet("Entries", ["number", "MA-1", "FR"], ["0000001", "x", None], ["0000002", None, "x"], ["0000003", None, None], merge=["B2:B3"])),
      files={"papers": TWO_LINES, "entries": ["0000001,MA-1", "0000002,MA-1", "0000002,FR"]}, told=[["Entries!B2", "B2:B3", "2 to 3"]])
-case("merged-beside", xlsx(sheet("Candidates", [*CANDIDATES, "form"], [*ADA, "7a"], [*BO, None], merge=["D2:D3"])), files={"candidates": [ADA_LINE, BO_LINE]})
+case("merged-beside", xlsx(sheet("Candidates", [*CANDIDATES, "form"], [*ADA, "7a"], [*BO, None], merge=["D2:D3"])), files={"candidates": [ADA_LINE, BO_LINE]},
+     told=[["", "0 mistakes, 0 changes, 1 note"]])
 case("merged-without-end", xlsx(candidates(ADA, BO, merge=["D2:XFD1048576"])), files={"candidates": [ADA_LINE, BO_LINE]}, seconds=60)
 case("row-without-height", own_sheet(row_xml(1, *CANDIDATES) + row_xml(2, *ADA) + row_xml(3, *BO, attributes=' ht="0" customHeight="1"')), 1, only=True,
      mistakes=[["Candidates!3", "hidden"]])

@@ -2,7 +2,9 @@
 import io
 import zipfile
 
-from cases import ADA, ADA_LINE, ARRANGEMENTS, BO, CANDIDATES, ENTRIES, HALLS, OPENINGS, PAPERS, SESSIONS, candidates, sheet
+from cases import (ADA, ADA_LINE, ARRANGEMENTS, BO, BO_LINE, CANDIDATES, ENTRIES, HALLS, OPENINGS, PAPERS, SESSIONS, candidates,
+                   sheet)
+from harder import own_sheet, row_xml
 from rawbook import MAIN, TIME, ods, ods_row, xlsx, zipped
 
 CASES = []
@@ -144,3 +146,42 @@ case("crosses-beside-candidates", xlsx(sheet("Candidates", [*CANDIDATES, "MA-1",
      1, only=True, mistakes=[["Candidates!D1", "a sheet Entries"], ["Candidates!E1", "a sheet Arrangements"]], told=[["Candidates!F1", "not read"]])
 case("struck-and-odd", xlsx(candidates(["0000001", ("strike", "Fran\u00c3\u00a7ois"), "CODE0001"])), 1, only=True, quiet=True,
      mistakes=[["Candidates!B2", "struck"]])
+case("text-under-a-format-of-numbers", xlsx(candidates([("t", "0000001", "@ 0"), *ADA[1:]])), files={"candidates": [ADA_LINE]},
+     told=[["Candidates!A2", "0000001"]])
+case("column-of-other-letters", xlsx(candidates([ADA[0], ("raw", '<c r="\u00c92" t="inlineStr"><is><t>Ada Lin</t></is></c>'), ADA[2]])), 1,
+     stderr=["is broken"])
+case("numbers-beyond-all-digits", xlsx(candidates([("n", "1e30", "0"), *ADA[1:]], [("n", "-1e999999", "General"), *BO[1:]])), 1, only=True,
+     mistakes=[["Candidates!A2", "1.00000E+30"], ["Candidates!A3", "-1.00000E+999999"]])
+case("row-of-headers-words", xlsx(sheet("Candidates", [*CANDIDATES, "Form"], [*ADA, None], ["0000002", "Hall", "CODE0002", "Exam"])),
+     files={"candidates": [ADA_LINE, "0000002,Hall,CODE0002"]}, told=[["Candidates!D1", "not read"]])
+case("total-beside-codes", xlsx(sheet("Openings", OPENINGS, ["S1", "A", 10, "12:00", "no"], ["S1", "TOTAL", 10, None, None])),
+     files={"openings": ["S1,A,10,12:00,no"]}, told=[["Openings!3", "looks like a total"]])
+case("minus-zero", xlsx(sheet("Arrangements", ARRANGEMENTS, ["0000001", "quiet", ("n", "-0", "General")])),
+     files={"arrangements": ["0000001,quiet,0"]})
+case("total-in-the-middle", xlsx(sheet("Openings", OPENINGS, ["S1", "A", 10, "12:00", "no"], [None, None, ("f", "SUM(C2)", 10), None, None],
+     ["S1", "B", 5, "12:00", "no"])), 1, only=True, mistakes=[["Openings!3", "is this a total?"]])
+case("merged-and-empty", xlsx(candidates(ADA, [], [], [], BO, merge=["A3:C3", "A4:A5"])), files={"candidates": [ADA_LINE, BO_LINE]}, quiet=True)
+case("merged-header-downwards", xlsx(candidates([], ADA, merge=["A1:A2", "B1:B2"])), files={"candidates": [ADA_LINE]}, quiet=True)
+case("numbers-by-conditions", xlsx(sheet("Openings", OPENINGS, ["S1", "A", ("n", "24", '[>100]0;0"0"'), "12:00", "no"],
+     ["S1", "B", ("n", "24", '0;[<30]0"0"'), "12:00", "no"])), 1, only=True, mistakes=[["Openings!C2"], ["Openings!C3"]])
+case("numbers-by-plain-formats", xlsx(candidates([("n", "1", ""), *ADA[1:]], [("n", "2", "+General"), *BO[1:]])),
+     files={"candidates": [ADA_LINE, BO_LINE]}, told=[["Candidates!A3", "number +2 became 0000002"]])
+case("zero-and-minus-by-sections", xlsx(sheet("Arrangements", ARRANGEMENTS, ["0000001", "quiet", ("n", "0", '0;0;"-"')],
+     ["0000002", "quiet", ("n", "-4", '0;0;"-"')])), 1, only=True, mistakes=[["Arrangements!C2", "shown as -:"], ["Arrangements!C3", "shown as 4:"]])
+case("codes-in-brackets", xlsx(sheet("Halls", HALLS, [("n", "101", "[Red]0"), "A", "-"], [("n", "102", "[$\u20ac-407]0"), "B", "-"])), 1,
+     only=True, mistakes=[["Halls!A3", "shown as \u20ac102:"]])
+case("number-without-zeros", xlsx(candidates([("n", "1", "#"), *ADA[1:]])), files={"candidates": [ADA_LINE]},
+     told=[["Candidates!A2", "number 1 became 0000001"]])
+case("zero-with-a-zero", xlsx(sheet("Arrangements", ARRANGEMENTS, ["0000001", "quiet", ("n", "0", "0")])),
+     files={"arrangements": ["0000001,quiet,0"]}, told=[["", "0 mistakes, 0 changes"]])
+case("text-under-numbers", xlsx(candidates([("t", "0000001", "0"), *ADA[1:]])), files={"candidates": [ADA_LINE]}, quiet=True)
+case("afternoon", xlsx(sheet("Sessions", SESSIONS, ["S1", "2027-06-01", ("n", "0.60416666666666663", TIME)])),
+     files={"sessions": ["S1,2027-06-01,14:30"]}, quiet=True)
+case("percent-by-conditions", xlsx(sheet("Arrangements", ARRANGEMENTS, ["0000001", "-", ("n", "0.25", "[<1]0%;0%")])),
+     files={"arrangements": ["0000001,-,25"]}, told=[["Arrangements!C2", "extra 25% became 25 (percent)"]])
+case("hidden-and-empty", xlsx(candidates(ADA, [" "], BO, hidden_rows=[3])), files={"candidates": [ADA_LINE, BO_LINE]}, quiet=True)
+case("total-above-a-note", xlsx(sheet("Openings", OPENINGS, ["S1", "A", 10, "12:00", "no"], [None, None, ("f", "SUM(C2)", 10), None, None],
+     [None, None, None, None, None, "made by Bo"])), files={"openings": ["S1,A,10,12:00,no"]}, told=[["Openings!3", "looks like a total"]])
+case("called-sum", xlsx(candidates(["0000001", "Sum", "CODE0001"])), files={"candidates": ["0000001,Sum,CODE0001"]}, quiet=True)
+case("wrong-code", xlsx(candidates(["0000001", "Ada Lin", "SHORT"])), 1, only=True, mistakes=[["Candidates!C2"]],
+     told=[["", "1 mistake, 0 changes, 0 notes"]])
