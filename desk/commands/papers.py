@@ -41,13 +41,19 @@ Prints the invigilators' sheets of a session, each hall on a page of its own: do
 
 A page for a browser, on A4: by desk the number, name, paper, finish, arrangement and note of each candidate, and a box
 to sign. The heading stands on each page again. A hall in which nobody sits has no sheet. It is for invigilators: who
-has which arrangement is private. For the door take `office poster`.
+has which arrangement is private. For the door take `office poster`, for candidates to sign `office signatures`.
 """),
     "poster": ("session hall*", """Prints the posters for the doors of a session: poster SESSION [HALL ..] >poster.html
 
 A page for a browser, on A4: each hall from a page of its own on, with a heading that is read from afar, and by name the
 desk of each candidate in three columns. Only namesakes of the session, in whichever halls, have their numbers beside
 the name, so each knows which door is theirs. It shows no paper and no arrangement.
+"""),
+    "signatures": ("session hall*", """\
+Prints the lists that the candidates of a session sign: signatures SESSION [HALL ..] >signatures.html
+
+A page for a browser, on A4: each hall from a page of its own on, by desk number, name and paper of each candidate, and a
+box to sign. It shows no arrangement, no note and no finish, as the invigilators' sheets of `office doors` do.
 """),
     "summary": ("session*", """\
 Prints a line for each session, with all its counts: summary [SESSION ..]

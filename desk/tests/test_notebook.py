@@ -475,7 +475,8 @@ class Commands(sample.SampleSchool):
         self.write("notes.csv", "number,text\n0001051,<b>rest</b> breaks\n")
         self.office("notes", "notes.csv")
         for words, shown in ((["doors", "MON-AM", "PC1"], True), (["slips", "--only", "0001051"], True),
-                             (["board", "MON-AM"], False), (["poster", "MON-AM"], False), (["cards", "MON-AM"], False)):
+                             (["signatures", "MON-AM", "PC1"], False), (["board", "MON-AM"], False),
+                             (["poster", "MON-AM"], False), (["cards", "MON-AM"], False)):
             text = self.office(*words)
             self.assertEqual("&lt;b&gt;rest&lt;/b&gt; breaks" in text, shown, words)
             self.assertNotIn("<b>rest", text)
