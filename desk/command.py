@@ -160,12 +160,11 @@ def say_lines(lines: Iterable[str], is_private: bool = False) -> None:
 
 def say_private(text: str) -> None:
     """As `say`, of what may be of health or holds codes. It warns of a file that a shell made for others to read."""
-    import pathlib
-    import stat
     with contextlib.suppress(OSError):
-        path, mode = pathlib.Path("/proc/self/fd/1").resolve(), os.fstat(sys.stdout.fileno()).st_mode
-        if stat.S_ISREG(mode) and mode & 0o044 and all(folder.stat().st_mode & 0o011 for folder in path.parents):
-            warn(f"NOTE other users can read {path.name}: `chmod go= {path.name}` now, and `umask 077` before the next")
+        path = os.path.realpath("/proc/self/fd/1")
+        if os.path.isfile(path) and beside.others_can_read(path):
+            name = os.path.basename(path)
+            warn(f"NOTE other users can read {name}: `chmod go= {name}` now, and `umask 077` before the next")
     say(text)
 
 

@@ -255,6 +255,9 @@ def dispatch(office: Office, words: list[str]) -> Ran:
             if is_lacking and ran.status == 0:
                 command.warn(f"NOTE {office.base_name()}-wal does not lie beside it: in a backup the last appeals may "
                              "be lacking")
+            if open_for_others := [each for each in (place, beside.folder(place)) if beside.others_can_read(each)]:
+                names = " ".join(map(os.path.basename, open_for_others))
+                command.warn(f"NOTE other users can read what lies here: `chmod -R go= {names}`")
             return ran
     if words[0] not in running.SHEETS:
         return running.run_over(office, office.path, *words, output=None)

@@ -105,6 +105,20 @@ class Words(sample.SampleSchool):
             self.assertEqual((done.returncode, done.stderr.startswith("office: NOTE other users can read page.html")),
                              (0, is_said and is_open), (words, done.stderr))
 
+    def test_an_office_that_others_can_read(self):
+        """As one that was unpacked without `umask 077`; a folder that keeps others out is enough."""
+        is_open = all(above.stat().st_mode & 0o011 for above in pathlib.Path(self.folder).parents)
+        self.office("check")
+        for path, folder, said in ((self.path, 0o755, "office.db"), (self.desk, 0o755, "desk-office.db"),
+                                   (self.path, 0o700, "")):
+            os.chmod(self.folder, folder)
+            mode = os.stat(path).st_mode
+            os.chmod(path, mode | 0o044)
+            note = f"office: NOTE other users can read what lies here: `chmod -R go= {said}`\n" * (said != "" and is_open)
+            done = self.run_office("check")
+            self.assertEqual((done.stdout, done.stderr), ("good\n", note))
+            os.chmod(path, mode)
+
     def test_what_is_wrong_with_a_row(self):
         for row, text in [("0001000,A,B,WK3DEGZDPC", "4 in place of 3 fields; put a value with a comma in double quotes"),
                           ('0001000,"A,WK3DEGZDPC', "2 in place of 3 fields; a quote is not closed")]:
