@@ -101,7 +101,7 @@ def out_of_date(before: Reading, after: Reading, session: str, people: Collectio
              for number in on_paper.moved(then, now) if paper.lines.get(number) != now.get(number)]
     was, shared = (on_paper.shared(reading, session) for reading in (before, after))
     others = (what for what, *_ in on_paper.others(paper.shared, shared) if was.get(what) != shared[what])
-    return on_paper.out_of_date(moves, others, paper.lines)
+    return on_paper.out_of_date(after.office, moves, others, paper.lines)
 
 
 def new_clashes(before: Reading, after: Reading, sessions: Touched) -> Iterator[tuple[str, Person, list[str]]]:
