@@ -70,7 +70,10 @@ def numbers(words: list[str]) -> list[str]:
     from exam_desk import files
     if words != ["-"]:
         return words
-    return files.read("-", command.warn).decode("utf-8-sig", "replace").replace(",", " ").split()
+    text = files.read("-", command.warn)
+    if len(text) > files.MOST_BYTES:
+        raise Trouble(f"more than {files.MOST_BYTES} bytes of numbers")
+    return text.decode("utf-8-sig", "replace").replace(",", " ").split()
 
 
 @command.named("""Keeps notes on candidates, such as rest breaks, a scribe, a dictionary: notes [FILE]
@@ -85,7 +88,7 @@ user alone, and in its copies; `office back` leaves them as they are. A line say
 note. The log has whose note is another, and no text of it.
 """)
 def notes(parser: command.Parser) -> None:
-    from exam_desk import effects, facts, files, notebook, on_paper
+    from exam_desk import effects, facts, files, notebook
     from exam_desk.sheets import texts
     given = command.given(parser, "file?")
     office = command.office()
@@ -98,7 +101,7 @@ def notes(parser: command.Parser) -> None:
     texts_given = files.texts_by_number(text, given.file, "text", notebook.MOST_NOTE_BYTES, known)
     noted = notebook.take_notes(office, texts_given)
     command.say(" ".join(f"{word} {noted[word]}" for word in ("added", "changed", "removed", "same")) + "\n")
-    command.complain(effects.noted(on_paper.otherwise(office, texts_given, {})))
+    command.complain(effects.noted(office, texts_given, {}))
 
 
 @command.named("""Notes what is on paper, and says what is otherwise now: printed [SESSION [--look]]
@@ -181,8 +184,7 @@ def rows(parser: command.Parser) -> None:
         if given.hall not in titles:
             raise Trouble(f"the office has no hall {given.hall}; it has {few(sorted(titles), 20)}")
         notebook.keep_rows(office, given.hall, asked := notebook.Rows(given.across or 0, given.running))
-        drawn = {on_paper.OF_ROWS.format(given.hall): str(asked)}
-        command.complain(effects.noted(on_paper.otherwise(office, {}, drawn)))
+        command.complain(effects.noted(office, {}, {on_paper.OF_ROWS.format(given.hall): str(asked)}))
     kept = sorted(notebook.rows_of_halls(office).items())
     command.say_lines([f"{hall}: rows of {rows.across}, {rows.running}" for hall, rows in kept] or ["nothing is kept"])
 
@@ -202,6 +204,6 @@ def school(parser: command.Parser) -> None:
         notebook.set_school_name(office, given.page, notebook.PAGE)
     if given.name is not None:
         notebook.set_school_name(office, given.name)
-        command.complain(effects.noted(on_paper.otherwise(office, {}, {on_paper.OF_SCHOOL: given.name})))
+        command.complain(effects.noted(office, {}, {on_paper.OF_SCHOOL: given.name}))
     address = notebook.school_name(office, notebook.PAGE)
     command.say_lines([notebook.school_name(office) or "no name", *filter(None, [address])])

@@ -199,12 +199,13 @@ class Lodging(Change):
     def said(self, rehearsal: Rehearsal) -> int:
         """A lodging moves nobody: it shows what a grant behind it would come to, which no other rehearsal can."""
         lodged = lodging.lodge(replace(rehearsal.office, path=rehearsal.after), self.words)
-        if status := said(*lodged):
-            return status
-        command.say("lodging moves nobody; if you granted it afterwards:\n")
-        grant = Step(("decide", *lodged.first_line().split()[:2], "granted", ""))
-        rehearsal.answers.append(Answered(grant, running.run_over(rehearsal.office, rehearsal.after, *grant.words)))
-        return said(*rehearsal.answers[-1])
+        status = said(*lodged)
+        if not status:
+            command.say("lodging moves nobody; if you granted it afterwards:\n")
+            grant = Step(("decide", *lodged.first_line().split()[:2], "granted", ""))
+            rehearsal.answers.append(Answered(grant, running.run_over(rehearsal.office, rehearsal.after, *grant.words)))
+            said(*rehearsal.answers[-1])
+        return status
 
     def __call__(self) -> int:
         return said(*lodging.lodge(command.office(), self.words))

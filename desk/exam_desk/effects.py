@@ -219,9 +219,9 @@ def on_old_paper(papers: Mapping[str, on_paper.Papers]) -> list[Met]:
             for code, found in papers.items()]
 
 
-def noted(papers: Mapping[str, on_paper.Papers]) -> list[str]:
-    """As `done`, of the printed papers that something beside the office makes out of date."""
-    met = grouped({}, {PRINTED: on_old_paper(papers)})
+def noted(office: Office, notes: Mapping[str, str], common: Mapping[str, str]) -> list[str]:
+    """As `done`, of the printed papers that `on_paper.otherwise` gives."""
+    met = grouped({}, {PRINTED: on_old_paper(on_paper.otherwise(office, notes, common))})
     return brief(met) + listing(met, 1)
 
 

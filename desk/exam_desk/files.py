@@ -111,11 +111,8 @@ def below_header(text: bytes, path: str, header: Iterable[str], comma: bytes = b
     """The records after the header. Raises `Trouble` where the file is too long, is no UTF-8, or has another header."""
     if len(text) > MOST_BYTES:
         raise Trouble(f"is longer than {MOST_BYTES} bytes; split it", path)
-    try:
-        text.decode()
-    except UnicodeDecodeError as fault:
-        line = text.count(b"\n", 0, fault.start) + 1
-        raise Trouble(f"line {line}: {NO_UTF_8}; nothing is done", path) from None
+    if line := next((row.line for row in records(text, comma) if not all(map(is_utf_8, row.fields))), 0):
+        raise Trouble(f"line {line}: {NO_UTF_8}; nothing is done", path)
     rows = records(text, comma)
     first = next(rows, None)
     if first is None or first.fields != tuple(map(str.encode, header)):
