@@ -2,6 +2,7 @@
 import io
 import os
 import re
+import select
 import shutil
 import sqlite3
 import stat
@@ -86,6 +87,7 @@ class Words(sample.SampleSchool):
     def test_who_waits_for_what_comes_in_says_so(self):
         with subprocess.Popen([sample.DESK / "office", "notes", "-"], env=self.environment, stdin=subprocess.PIPE,
                               stdout=subprocess.PIPE, stderr=subprocess.PIPE, text=True) as process:
+            self.assertTrue(select.select([process.stderr], [], [], sample.PATIENCE)[0])
             self.assertEqual(process.stderr.readline(),
                              "office: waiting for what comes in; Ctrl-D ends it, and Ctrl-C breaks off\n")
             self.assertEqual(process.communicate("number,text\n1000,a scribe\n"),
