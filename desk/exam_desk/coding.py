@@ -74,7 +74,7 @@ def coded(office: Office, path: str | None, new: list[str]) -> Coded:
     as `read`, and where one of the new numbers is not there."""
     known = in_office(office)
     rows = [known[number] for number in dict.fromkeys(new) if number in known] if path is None \
-        else read(files.read(path), path)
+        else read(files.read(path, office.warn), path)
     for number in set(new) - {row[0] for row in rows}:
         raise Trouble(f"{number} is not in {path or 'the office'}; a number has seven digits")
     return filled(rows, known, set(new))

@@ -39,7 +39,9 @@ def put(path: str, content: str) -> None:
     would cost an office."""
     if os.path.lexists(path) and not is_one(path):
         raise Trouble("is there and is no file of titles: name another one, or remove it first", path)
-    with tempfile.TemporaryDirectory(prefix=".titles-", dir=os.path.dirname(os.path.abspath(path))) as folder:
+    if not os.path.isdir(place := os.path.dirname(os.path.abspath(path))):
+        raise Trouble(f"there is no folder {place}", path)
+    with tempfile.TemporaryDirectory(prefix=".titles-", dir=place) as folder:
         making = os.path.join(folder, "titles.json")
         files.put(making, content.encode("ascii"))
         os.chmod(making, READABLE)

@@ -3,6 +3,7 @@ import io
 import os
 import pathlib
 import re
+import select
 import shutil
 import sqlite3
 import stat
@@ -68,11 +69,19 @@ class Words(sample.SampleSchool):
         pipe = os.path.join(self.folder, "rows")
         os.mkfifo(pipe)
         for path in (pipe, self.folder):
-            for words in (["import", "entries", path], ["what-if", "import", "--", "entries", path]):
+            for words in (["import", "entries", path], ["what-if", "import", "--", "entries", path], ["notes", path],
+                          ["codes", path], ["slips", "--order", path], ["reinstate", "--list", path],
+                          ["check-shortage", path]):
                 self.assertIn(f"office: {path}: is no file, but a folder, a pipe", self.refused(*words))
         self.assertFalse(os.path.exists(os.path.join(self.desk, "log")))
-        self.assertEqual(self.office("import", "entries", "/dev/stdin", stdin="number,paper\n0001000,MA-1\n"),
-                         "added 0 changed 0 same 1\n")
+        for path in ("-", "/dev/stdin"):
+            self.assertEqual(self.office("import", "entries", path, stdin="number,paper\n0001000,MA-1\n"),
+                             "added 0 changed 0 same 1\n")
+            self.assertIn("0 of 1 row", self.run_office("reinstate", "--list", path, stdin="number,paper\n1000,MA-1\n").stdout)
+            self.assertIn(">10B<", self.run_office("slips", "--order", path, stdin="number,group\n1000,10B\n").stdout)
+            self.assertEqual(self.office("codes", path, stdin="number,name,code\n0009000,Ann,\n"),
+                             "candidates-with-codes.csv: 1 code made for 1 row\n")
+            os.remove(os.path.join(self.folder, "candidates-with-codes.csv"))
         self.assertIn("  stdin line 2: number '1000': leading zeros lost?",
                       self.refused("import", "entries", "/dev/stdin", stdin="number,paper\n1000,MA-1\n"))
 
@@ -118,6 +127,15 @@ class Words(sample.SampleSchool):
             done = self.run_office("check")
             self.assertEqual((done.stdout, done.stderr), ("good\n", note))
             os.chmod(path, mode)
+
+    def test_who_waits_for_what_comes_in_says_so(self):
+        with subprocess.Popen([sample.DESK / "office", "notes", "-"], env=self.environment, stdin=subprocess.PIPE,
+                              stdout=subprocess.PIPE, stderr=subprocess.PIPE, text=True) as process:
+            self.assertTrue(select.select([process.stderr], [], [], sample.PATIENCE)[0])
+            self.assertEqual(process.stderr.readline(),
+                             "office: waiting for what comes in; Ctrl-D ends it, and Ctrl-C breaks off\n")
+            self.assertEqual(process.communicate("number,text\n1000,a scribe\n"),
+                             ("added 1 changed 0 removed 0 same 0\n", ""))
 
     def test_what_is_wrong_with_a_row(self):
         for row, text in [("0001000,A,B,WK3DEGZDPC", "4 in place of 3 fields; put a value with a comma in double quotes"),
@@ -285,7 +303,10 @@ class Words(sample.SampleSchool):
         self.assertIn("  PC1      sits here, at desk 1\n", self.office("why", "MON-AM", "0001051"))
         self.assertEqual(self.office("why", "MON-AM", "1051"), self.office("why", "MON-AM", "0001051"))
         self.assertIn("no session", self.refused("why", "XX"))
-        self.assertIn("sits nothing", self.refused("why", "MON-AM", "0009999"))
+        self.assertEqual(self.refused("why", "MON-AM", "9999"),
+                         "office: the office has no candidate 0009999; `office look NAME` finds a number by a name\n")
+        self.assertEqual(self.refused("why", "TUE-AM", "1000"),
+                         "office: 0001000 sits nothing in TUE-AM; `office look 0001000` says what they sit\n")
         self.assertIn("'Ferrari' is no candidate number: that has seven digits", self.refused("why", "MON-AM", "Ferrari"))
 
 

@@ -78,7 +78,10 @@ class Papers(sample.SampleSchool):
         for text, said in (("number,form\n", "line 1 must be: number,group"),
                            ("number,group\n10x51,10B\n", "line 2: '10x51' is no number of seven digits"),
                            ("number,group\n0001051,10B\n0001051,10A\n", "line 3: there is another group for 0001051"),
-                           ('number,group\n0001051,"a\nb"\n', "line 2: a group has at most 80 bytes")):
+                           ('number,group\n0001051,"a\nb"\n', "line 2: a group has at most 80 bytes"),
+                           ("number,group\n0001051,10B\n0001017,Ä\n".encode("cp1252"),
+                            "line 3: the letters are no UTF-8: save the file as CSV UTF-8; nothing is done"),
+                           ("number,group\n".encode("utf-16"), "line 1: the letters are no UTF-8")):
             self.assertIn(said, self.refused("slips", "--order", self.write("wrong.csv", text)))
 
     def test_changes(self):

@@ -54,15 +54,6 @@ MARKS = {"Mn", "Me", "Cf"}  # stand over other letters, or nowhere
 Row = tuple[list[object], float]  # the cells of a candidate, and how high they are
 
 
-class NotDrawn(Trouble):
-    """Nobody has said how the desks of some halls stand; of the others there are charts."""
-
-    def __init__(self, halls: list[str], others: list[str]) -> None:
-        super().__init__(f"no chart of {', '.join(halls)} yet: say once how the desks stand, `office rows {halls[0]} "
-                         "8` for rows of 8 desks")
-        self.halls, self.others = halls, others
-
-
 def when(reading: Reading, session: str) -> Markup:
     head = facts.session_row(reading.rows, session)
     return html("{}, {} ({})", long_day(head["day"]), clock(head["start"]), session)
@@ -132,19 +123,30 @@ def cards(reading: Reading, session: str, asked: Collection[str] = ()) -> str:
     return of_desks(reading, session, "Desk cards", sheets, "cards")
 
 
+def not_drawn(reading: Reading, session: str, asked: Collection[str] = ()) -> list[str]:
+    """The halls among them of which nobody has said how their desks stand."""
+    rows = notebook.rows_of_halls(reading.office)
+    return [opening.hall for opening, _ in lists.halls(reading, session, asked) if opening.hall not in rows]
+
+
 def chart(reading: Reading, session: str, asked: Collection[str] = ()) -> str:
-    """Seating charts: halls as rows of desks, with who sits where. Raises `NotDrawn` too, with the other halls."""
+    """Seating charts: halls as rows of desks, with who sits where. A warning names halls of which there is none. Raises
+    `Trouble` where there is no other."""
     halls, rows = lists.halls(reading, session, asked), notebook.rows_of_halls(reading.office)
     moment, name, papers = when(reading, session), school(reading.office, ". "), paper_names(reading.rows, CODE)
-    codes, others = [opening.hall for opening, _ in halls], overlaps.in_halls(reading, session)
-    if unknown := [code for code in codes if code not in rows]:
-        raise NotDrawn(unknown, [code for code in codes if code in rows])
+    others = overlaps.in_halls(reading, session)
+    if unknown := not_drawn(reading, session, asked):
+        said = (f"no chart of {', '.join(unknown)} yet: say once how the desks stand, `office rows {unknown[0]} 8` for "
+                "rows of 8 desks")
+        if len(unknown) == len(halls):
+            raise Trouble(said)
+        reading.office.warn(said)
     return of_desks(reading, session, "Seating charts", (
         html(CHART, "chart wide" if stand.across > UPRIGHT else "chart", stand.across, text(opening.title),
              opening.hall, name, moment,
              joined([lists.count(len(there), "candidate"), *others.get(opening.hall, [])], "<br>"),
              joined(drawn(opening.desks, there, stand, papers)))
-        for opening, there in halls for stand in [rows[opening.hall]]), "chart")
+        for opening, there in halls if (stand := rows.get(opening.hall))), "chart")
 
 
 def drawn(desks: int, members: Iterable[Member], rows: Rows, papers: Mapping[str, Markup]) -> Iterator[Markup]:
