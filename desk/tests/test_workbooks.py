@@ -252,6 +252,11 @@ class Mending(unittest.TestCase):
         self.assertEqual((2, 0), (len(reading.records["entries"]), reading.report.count("mistake")))
         self.assertEqual([], Job(Known()).together)
 
+    def test_a_folder_without_one_of_the_files_is_refused(self) -> None:
+        with tempfile.TemporaryDirectory() as folder, self.assertRaisesRegex(Trouble, f"{folder}: none of the seven files"):
+            pathlib.Path(folder, "pupils.csv").write_text("number,name,code\n", "utf-8")
+            mend_folder(folder, Job(Known()), None, lambda text: None)
+
 
 class Writing(unittest.TestCase):
     def test_a_folder_is_made_whole_or_not_at_all(self) -> None:

@@ -185,3 +185,9 @@ case("total-above-a-note", xlsx(sheet("Openings", OPENINGS, ["S1", "A", 10, "12:
 case("called-sum", xlsx(candidates(["0000001", "Sum", "CODE0001"])), files={"candidates": ["0000001,Sum,CODE0001"]}, quiet=True)
 case("wrong-code", xlsx(candidates(["0000001", "Ada Lin", "SHORT"])), 1, only=True, mistakes=[["Candidates!C2"]],
      told=[["", "1 mistake, 0 changes, 0 notes"]])
+case("columns-of-half-a-kind", xlsx(sheet("Plan", ["Termin", "Raum"], ["S1", "A"])), 1, only=True, args=["--columns", "{here}/columns.toml"],
+     beside={"columns.toml": '[openings]\nsession = "Termin"\nhall = "Raum"\n'},
+     mistakes=[["Plan!1", f"the column {name} is missing"] for name in ("desks", "until", "reserved")])
+case("paper-called-like-a-session", xlsx(sheet("Sessions", SESSIONS, ["S1", "2027-06-01", "09:00"]), sheet("Papers", PAPERS, ["S1", "M", "S1", 90, "-"]),
+     sheet("Openings", OPENINGS, ["S1", "A", 10, ("n", "46539.5", "dd/mm/yyyy hh:mm"), "no"])), files={
+         "sessions": ["S1,2027-06-01,09:00"], "papers": ["S1,M,S1,90,-"], "openings": ["S1,A,10,12:00,no"]})
