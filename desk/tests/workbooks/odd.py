@@ -4,7 +4,6 @@ import zipfile
 
 from cases import (ADA, ADA_LINE, ARRANGEMENTS, BO, BO_LINE, CANDIDATES, ENTRIES, HALLS, OPENINGS, PAPERS, SESSIONS, candidates,
                    sheet)
-from harder import own_sheet, row_xml
 from rawbook import MAIN, TIME, ods, ods_row, xlsx, zipped
 
 CASES = []
@@ -216,3 +215,14 @@ case("notes-below-papers", xlsx(sheet("Papers", PAPERS, ["MA-1", "Maths", "S1", 
      files={"papers": ["MA-1,Maths,S1,90,-"]}, told=[["Papers!F3", "stands beside empty columns"]])
 case("sheet-called-as-a-header", xlsx(TWO_PAPERS, sheet("Paper", ["number", "name"], ADA[:2])),
      files={"papers": ["MA-1,Maths,S1,90,-", "FR,French,S1,60,-"], "candidates": ["0000001,Ada Lin,"]})
+
+# columns that are not read, and such as must be looked at
+case("columns-beside-features", xlsx(TWO_PAPERS, sheet("Halls", [*HALLS, "screen", "Booked", "Laptops", "MA-1"], ["A", "Hall A", "quiet", "big", "x", "3", "x"])),
+     files={"papers": ["MA-1,Maths,S1,90,-", "FR,French,S1,60,-"], "halls": ["A,Hall A,quiet"]},
+     told=[[f"Halls!{letter}1", "is not read"] for letter in "DEFG"])
+case("columns-beside-candidates", xlsx(sheet("Candidates", [*CANDIDATES, "Laptop", "status", "Exam"], [*ADA, "x", "Withdrawn", "FR"])),
+     files={"candidates": [ADA_LINE]}, told=[[f"Candidates!{letter}1", "is not read"] for letter in "DEF"])
+case("features-missing", xlsx(sheet("Halls", HALLS[:2], ["A", "Hall A"])), 1, only=True, mistakes=[["Halls!1", "the column features is missing"]])
+case("crosses-beside-one-value", xlsx(sheet("Halls", [*HALLS[:2], "screen"], ["A", "Hall A", "x"])), 1, only=True,
+     args=["--columns", "{here}/columns.toml"], beside={"columns.toml": '[halls]\nfeatures = { always = "quiet" }\n'},
+     mistakes=[["Halls!C1", "screen has crosses beside the column features"]])
