@@ -1,6 +1,7 @@
 """Nothing is sent to a process that is not the one that is meant, whoever has its port, and whenever they took it."""
 import asyncio
 import contextlib
+import datetime
 import os
 import select
 import socket
@@ -14,6 +15,7 @@ from unittest import mock
 
 import sample
 from exam_desk import asking, hold
+from exam_desk.office import Office, Trouble
 
 ANSWER = b"HTTP/1.1 200 OK\r\nContent-Length: 2\r\n\r\nok"
 REQUEST = b"GET /candidates/0001051/seats HTTP/1.1\r\nexam-code: VMGNZGEDP9\r\n\r\n"
@@ -121,6 +123,21 @@ class Asking(unittest.TestCase):
             self.assertEqual(asking.status_of(text), status, text)
 
 
+class Serves(unittest.TestCase):
+    def test_a_serve_that_refuses_the_office_is_said_and_not_begun_again(self):
+        with tempfile.TemporaryDirectory() as folder:
+            program = os.path.join(folder, "program")
+            with open(program, "w", encoding="utf-8") as file:
+                file.write(f"#!/bin/sh\necho begun >>{folder}/begun\necho 'refused 22' >&2\n")
+            os.chmod(program, 0o700)
+            heard = []
+            with contextlib.closing(asking.Serve(Office("o.db", program, datetime.date.today, ""), "o.db", heard.append)) as serve:
+                with self.assertRaisesRegex(Trouble, r"does not read the office \(refused 22\)"):
+                    serve.bodies([REQUEST], lambda done, of: None)
+            with open(os.path.join(folder, "begun"), encoding="utf-8") as file:
+                self.assertEqual((heard, file.read()), (["refused 22"], "begun\n"))
+
+
 class Requests(unittest.IsolatedAsyncioTestCase):
     """What the door hands on of a request: as much as `serve` reads, however it comes."""
 
@@ -214,6 +231,14 @@ class Held(unittest.IsolatedAsyncioTestCase):
         self.open()
         self.assertEqual(await self.hold.answer(REQUEST), self.answer)
         self.assertEqual((self.hold.over.is_set(), self.hold.opened.is_set()), (False, True))
+
+    async def test_one_client_too_many_is_answered_before_it_asks(self):
+        self.hold.most_clients = 0
+        async with await asyncio.start_server(self.hold.take, "127.0.0.1", 0) as door:
+            reader, writer = await asyncio.open_connection(*door.sockets[0].getsockname())
+            self.assertEqual(await reader.read(), hold.FULL)
+            writer.close()
+        self.assertEqual((self.hold.clients, self.hold.asked), (0, 0))
 
     async def test_no_answer_in_time_begins_anew(self):
         with mock.patch("exam_desk.hold.ANSWER_SECONDS", 0.2), mock.patch("exam_desk.hold.GAP_SECONDS", 1):

@@ -176,6 +176,10 @@ class Verdicts(sample.SampleSchool):
         self.assertIn(line, said)
         self.assertRegex(said, "\n7 files, [1-9][0-9]* mistakes?, 0 notes\n$")
 
+    def test_a_folder_in_the_place_of_a_file(self):
+        os.mkdir(os.path.join(self.folder, "halls.csv"))
+        self.assertIn("halls.csv is no file\n", self.refused("check-files", "."))
+
     def test_files_at_random(self):
         with tempfile.TemporaryDirectory() as folder, random_files.schools(folder, SEED) as schools:
             for _ in range(TRIES):

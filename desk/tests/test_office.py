@@ -9,7 +9,9 @@ import sqlite3
 import stat
 import subprocess
 import sys
+import time
 import unittest
+from concurrent.futures import ThreadPoolExecutor
 from contextlib import closing, redirect_stderr, suppress
 from dataclasses import replace
 from unittest import mock
@@ -372,11 +374,33 @@ class Causes(sample.SampleSchool):
                 process.terminate()
 
     def test_another_program_is_waited_for(self):
-        script = ("import sqlite3, sys, time\nfile = sqlite3.connect(sys.argv[1])\nfile.execute('BEGIN IMMEDIATE')\n"
-                  "print(flush=True)\ntime.sleep(1)\nfile.rollback()\nfile.close()\n")
-        with subprocess.Popen([sys.executable, "-c", script, self.path], stdout=subprocess.PIPE) as process:
+        script = ("import sqlite3, sys\nfile = sqlite3.connect(sys.argv[1])\nfile.execute('BEGIN IMMEDIATE')\n"
+                  "print(flush=True)\nsys.stdin.read()\nfile.rollback()\nfile.close()\n")
+        log = os.path.join(self.desk, "log")
+        with (subprocess.Popen([sys.executable, "-c", script, self.path], stdin=subprocess.PIPE, stdout=subprocess.PIPE) as process,
+              ThreadPoolExecutor() as pool):
             process.stdout.readline()
-            self.assertEqual(self.office("withdraw", "0001000", "MA-1"), "withdrawn\n")
+            done = pool.submit(self.office, "withdraw", "0001000", "MA-1")
+            sample.until(lambda: os.path.exists(log) and os.path.getsize(log))
+            time.sleep(1)  # the program begins, and is refused
+            process.stdin.close()
+            self.assertEqual(done.result(), "withdrawn\n")
+
+    def test_who_has_the_file_is_named(self):
+        with open(self.path, "rb") as file, subprocess.Popen(["sleep", "60"], stdin=file) as process:
+            sample.until(lambda: refusals.holder(self.value))
+            self.assertEqual(refusals.cause(self.value), f"another command has it (process {process.pid}: sleep 60)")
+            with mock.patch("exam_desk.turns.keep_state", return_value={"pid": 1, "serve": process.pid}):
+                self.assertEqual(refusals.cause(self.value), f"`keep` serves it (process {process.pid})")
+            process.kill()
+
+    def test_what_was_overwritten(self):
+        self.write("office.db", b"x" * 4096)
+        self.assertIn("is no database, or its beginning was overwritten", refusals.lasting_cause(self.value))
+        for words, data in ((["withdraw", "0001000", "MA-1"], None), (["import", "halls", "h.csv"], b"hall,title,features\n")):
+            number = 9 if data is None else 1
+            self.assertEqual(refusals.explained(self.value, words, f"refused {number}", data),
+                             [f"  {refusals.SENTENCES[number]}"])
 
 
 class Back(sample.SampleSchool):

@@ -76,6 +76,12 @@ class Crowded(unittest.TestCase):
                 answer.side_effect = [said]
                 self.assertEqual(keeping.status(None), (False, f"process 7 does not serve now: {why}"))
 
+    def test_status_of_what_runs_elsewhere_or_could_write_nothing(self):
+        for state, said in (({"pid": 0, "state": "serving"}, "`keep` runs in another container or on another machine: ask there"),
+                            ({"pid": 7}, "process 7 runs, but cannot write down what it does: is the disk full?")):
+            with mock.patch("exam_desk.turns.keep_state", return_value=state):
+                self.assertEqual(keeping.status(None), (False, said))
+
     def test_status_says_what_a_refusal_means(self):
         for state, said in (("serve ended with status 1: refused 27",
                              "serve ended with status 1: refused 27; an earlier version of the program made the file; "
@@ -340,6 +346,10 @@ class Sockets(sample.SampleSchool):
             with open(os.path.join(folder, name), "w", encoding="utf-8"):
                 with self.assertRaisesRegex(Trouble, words), keeping.listener(os.path.join(folder, "keep.socket")):
                     self.fail("it listens")
+            os.remove(os.path.join(folder, name))
+        path = os.path.join(folder, "keep.socket")
+        with keeping.listener(path), self.assertRaisesRegex(Trouble, f"{path} cannot be had: another process serves there"):
+            keeping.make_room(path)
 
 
 if __name__ == "__main__":

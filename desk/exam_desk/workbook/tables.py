@@ -249,7 +249,7 @@ class Headed:
                     "counts"
             is_second = name in [other for at, other in self.marks.items() if at < place]
             return f"the {'paper' if self.kind == 'entries' else 'feature'} {name} has two columns" if is_second else ""
-        if self.kind in MARKED and place in self.crossed and place in crosses and self.marked in self.header.columns:
+        if place in self.crossed and place in crosses:
             return f"{self.crossed[place]} has crosses beside the column {self.marked}: keep one of the two"
         if self.kind in MARKED and place in crosses and folded(said) in NEAR:
             return f"{said!r} has crosses and is no feature: call it {NEAR[folded(said)]} if that is meant, or " \
