@@ -210,8 +210,8 @@ def lines(planned: Plan, before: Reading, after: Reading) -> list[str | Said]:
     [second] = after.members(planned.session, [number])
     refuse_otherwise(planned, after, first, second)
     then = second.sitting
-    said = Said(SITS, {"person": person, "first": first.paper, "finish": lacking(first.finish, first), "hall": then.hall,
-                       "paper": then.paper, "start": then.start, "end": then.finish, "desk": then.desk})
+    said = Said(SITS, {"person": person, "first": first.paper, "finish": lacking(first.finish, first),
+                       "paper": then.paper, "start": then.start, "end": then.finish, "hall": then.hall, "desk": then.desk})
     return [planned.made, said, *arranged(before, after, number, planned.first, planned.session)]
 
 

@@ -180,8 +180,8 @@ class TestPrinting(DeskSchool):
         _, sheet = self.browser.send(*asked, ("forms.csv", text.encode()), status=200)
         done = self.run_office("slips", "--order", self.write("forms.csv", text))
         said = re.findall('<p role="status" lang="en">(.*?)</p>\n', sheet)
-        is_said = re.compile('<p role="status".*\n')
-        self.assertEqual(is_said.sub("", sheet), done.stdout)
+        above = re.compile('<p role="status".*\n')
+        self.assertEqual(above.sub("", sheet), done.stdout)
         self.assertEqual(re.findall(r"<div class=sheet><h2><bdi>(.*?)</bdi>", sheet), ["10B", "&lt;i&gt;=10A", "in no group"])
         self.assertEqual([re.sub("</?bdi>", "", line) for line in said],
                          [line.removeprefix("office: ") for line in done.stderr.splitlines()])
@@ -196,7 +196,7 @@ class TestPrinting(DeskSchool):
         _, sheet = self.browser.send(*asked, ("", b""), status=200, codes="1")
         self.assertEqual(sheet, self.office("slips", "--codes"))
         _, sheet = self.browser.send(*asked, ("f.csv", b"number,group\n0001051,10B\n"), status=200, session="MON-AM")
-        self.assertEqual(is_said.sub("", sheet), self.run_office("slips", "MON-AM", "--desks", "--order", self.write(
+        self.assertEqual(above.sub("", sheet), self.run_office("slips", "MON-AM", "--desks", "--order", self.write(
             "f.csv", "number,group\n0001051,10B\n")).stdout)
 
     def test_notes(self):
