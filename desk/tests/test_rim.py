@@ -251,6 +251,9 @@ class Elsewhere(sample.SampleSchool):
 
 
 class Turns(sample.SampleSchool):
+    def test_a_lock_that_is_not_there_is_free(self):
+        self.assertEqual((turns.is_taken(self.value, "want.lock"), turns.text_of(self.value, "want.lock")), (False, ""))
+
     def test_a_command_lets_candidates_go_first(self):
         """No command begins while `keep` holds the lock for candidates who wait; it says behind whom it waits."""
         with mock.patch("exam_desk.turns.SILENCE", 0.1):
