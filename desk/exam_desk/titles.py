@@ -12,7 +12,6 @@ from exam_desk.words import clock
 
 SESSIONS, PAPERS, HALLS = KINDS = ("sessions", "papers", "halls")  # in the file; of its rows
 PLACE = "titles"  # beside the office: the path of the file
-READABLE = 0o644  # the web server is another user
 
 
 def text(rows: Rows) -> str:
@@ -44,7 +43,7 @@ def put(path: str, content: str) -> None:
     with tempfile.TemporaryDirectory(prefix=".titles-", dir=place) as folder:
         making = os.path.join(folder, "titles.json")
         files.put(making, content.encode("ascii"))
-        os.chmod(making, READABLE)
+        os.chmod(making, 0o644)  # the web server is another user
         os.replace(making, path)
 
 

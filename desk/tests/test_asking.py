@@ -35,9 +35,9 @@ with socket.socket(socket.AF_UNIX if "/" in sys.argv[1] else socket.AF_INET) as 
 
 
 @contextlib.contextmanager
-def listening(path="port"):
+def listening(path="port", answer=ANSWER):
     """Another process that listens; gives it and its place."""
-    line = [sys.executable, "-c", LISTENER, path, ANSWER.decode()]
+    line = [sys.executable, "-c", LISTENER, path, answer.decode()]
     with subprocess.Popen(line, stdout=subprocess.PIPE, text=True) as process:
         try:
             named = process.stdout.readline().strip()
@@ -116,6 +116,20 @@ class Asking(unittest.TestCase):
                     connection = asking.sent(server, REQUEST * 100, 30)
                 thread.join()
                 self.assertEqual(asking.received(connection), ANSWER, taken)
+
+    def test_each_answer_must_be_whole_and_good(self):
+        """Where one is not, no connection to those that are asked after it stays open."""
+        for answer, said in ((ANSWER[:-1], "the answer is not whole"),
+                             (ANSWER.replace(b"200 OK", b"404 No"), "the program answered 404 ok")):
+            found, before = [], os.listdir("/proc/self/fd")
+            with listening(answer=answer) as (process, place):
+                opened = len(os.listdir("/proc/self/fd"))
+                try:
+                    asking.ask_all(asking.Server(process.pid, place), [REQUEST] * 3, found, lambda done, of: None)
+                except (ConnectionError, Trouble) as fault:
+                    self.assertEqual((len(os.listdir("/proc/self/fd")), str(fault)), (opened, said))
+                    found.append("raised")
+            self.assertEqual((found, os.listdir("/proc/self/fd")), (["raised"], before))
 
     def test_status(self):
         for text, status in [(ANSWER, 200), (ANSWER[:-1], 0), (b"", 0), (ANSWER + b"x", 0), (b"\r\n\r\n", 0),

@@ -251,6 +251,20 @@ class Elsewhere(sample.SampleSchool):
 
 
 class Turns(sample.SampleSchool):
+    def test_who_does_not_give_the_office_back_is_named(self):
+        with turns.lock_file(self.value, "office.lock") as lock, mock.patch("exam_desk.turns.PATIENCE", 0.1):
+            self.assertTrue(turns.try_lock(lock))
+            for state, who in ((None, r"the program \(a command that began it was killed\)"),
+                               ({"pid": 7}, r"`keep` \(it does not step aside: \{'pid': 7\}\)")):
+                with (mock.patch("exam_desk.turns.keep_state", return_value=state), mock.patch("os.kill") as asked,
+                      self.assertRaisesRegex(Trouble, f"^{who} has the office, and 0.1 seconds are over; nothing is changed")):
+                    with turns.alone(self.value, ["check"]):
+                        self.fail("it has the office")
+                self.assertEqual(asked.call_count, state is not None)
+
+    def test_a_lock_that_is_not_there_is_free(self):
+        self.assertEqual((turns.is_taken(self.value, "want.lock"), turns.text_of(self.value, "want.lock")), (False, ""))
+
     def test_a_command_lets_candidates_go_first(self):
         """No command begins while `keep` holds the lock for candidates who wait; it says behind whom it waits."""
         with mock.patch("exam_desk.turns.SILENCE", 0.1):

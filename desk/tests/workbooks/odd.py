@@ -226,3 +226,10 @@ case("features-missing", xlsx(sheet("Halls", HALLS[:2], ["A", "Hall A"])), 1, on
 case("crosses-beside-one-value", xlsx(sheet("Halls", [*HALLS[:2], "screen"], ["A", "Hall A", "x"])), 1, only=True,
      args=["--columns", "{here}/columns.toml"], beside={"columns.toml": '[halls]\nfeatures = { always = "quiet" }\n'},
      mistakes=[["Halls!C1", "screen has crosses beside the column features"]])
+case("rooms-without-features", xlsx(candidates(ADA), sheet("Rooms of 2026", HALLS[:2], ["A", "Hall A"])), files={"candidates": [ADA_LINE]},
+     told=[["'Rooms of 2026'", "is not read: no row is the header"]])
+case("entries-with-two-names", xlsx(TWO_PAPERS, sheet("Entries", ["number", "Vorname", "Nachname", "paper"], ["0000001", "Ada", "Lin", "MA-1"])),
+     files={"papers": ["MA-1,Maths,S1,90,-", "FR,French,S1,60,-"], "entries": ["0000001,MA-1"]},
+     told=[[f"Entries!{letter}1", "is not read"] for letter in "BC"])
+case("column-in-capitals-and-hidden", xlsx(sheet("Candidates", [*CANDIDATES, "FORM"], [*ADA, "7a"], hidden_columns=[4])), files={"candidates": [ADA_LINE]},
+     told=[["Candidates!D1", "the column 'FORM' is not read"]])
