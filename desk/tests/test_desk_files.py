@@ -101,8 +101,8 @@ class TestFiles(Uploads):
             self.assertNotIn("office take", words)
         self.assertIn('name="codes" value="1" required', self.browser.get(page))  # so the browser asks for it there
         _, text = self.browser.post("/propose/files", page, 422, upload=page.rsplit("/", 1)[1])
-        self.assertIn('tick below that the desk makes them <a href="#fault-files-codes">', text)
-        self.assertIn('id="fault-files-codes"', text)
+        self.assertIn('<a href="#at-files-codes">Access code</a>: without an access code', text)
+        self.assertRegex(text, 'name="codes"[^>]* id="at-files-codes"')
         proposal = self.propose(page, codes="1")
         self.carry_out(proposal)
         self.assertEqual(self.rows("SELECT count(DISTINCT code) FROM candidate WHERE number >= 10000"), [(200,)])
