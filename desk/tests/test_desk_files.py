@@ -66,6 +66,20 @@ class TestFiles(Uploads):
         self.browser.post(f"/office/copies/{key}/back", f"/office/copies/{key}")
         self.assertEqual((self.seats(), self.rows("SELECT * FROM candidate WHERE number > 12000")), (before, []))
 
+    def test_who_hears_it_hears_what_is_wrong_in_a_cell(self):
+        page = self.upload(("entries.csv", b"number,paper\n12001,EN-1\n0001051,EN1\n"))
+        text = self.browser.get(page)
+        self.assertIn("<title>2 mistakes: Look through", text)
+        self.assertRegex(text, r'name="entries:3:paper"[^>]*aria-label="Paper in line 3 of entries\.csv"[^>]* '
+                               'aria-invalid="true" aria-describedby="entries-3-paper">')
+        self.assertEqual(text.count('id="entries-3-paper"'), 1)
+        self.assertGreater(text.rindex("and look again</button>"), text.rindex("aria-describedby"))  # behind the cells
+        for values, title in (({}, "Not done: 2 mistakes: "), ({"entries:2:number": "0001051"}, "done: 1 mistake: "),
+                              ({"entries:3:paper": "EN-1"}, "done: No mistake: ")):
+            self.browser.post(page + "/correct", page, **values)
+            self.assertIn(f"<title>{title}", self.browser.get(page))
+        self.assertIn("<title>Nothing could be taken: ", self.browser.get(self.upload(("a.pdf", b"x"))))
+
     def test_a_candidate_of_the_office_keeps_the_code(self):
         (number,), (other,) = self.rows("SELECT printf('%07d', number) FROM candidate ORDER BY number LIMIT 2")
         rows = f"number,name,code\n{number},Ada Marsh,\n{int(other)},Bo,\n0012001,Nadia,\n"

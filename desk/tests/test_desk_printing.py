@@ -296,6 +296,7 @@ class TestTheDay(DeskSchool):
             self.assertRegex(text, 'name="numbers"[^>]*aria-invalid="true"')
         self.browser.post("/sessions/NONE/absent", page, 404, numbers="0001051")
         self.assertIn('name="was" value="0001051"', self.browser.get(page))  # whose tick is taken away was there
+        self.assertIn('aria-label="Absent: Di Berg, 0001051"', self.browser.get(page + "/halls/PC1"))
         self.browser.post(page + "/absent", page, was=["0001051"])
         self.assertIn(self.NOTHING_NOTED, self.browser.words(page))
         self.browser.post(page + "/absent", page, nobody="1")
