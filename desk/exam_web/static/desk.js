@@ -90,9 +90,10 @@ if (halls.length && halls.length <= 12 && ![...halls].some((each) => each.open))
 // what a form came to has the focus: the field that is wrong, else what is said, which stands where the address leads
 const said = document.getElementById("said"), there = document.getElementById(location.hash.slice(1));
 if (said && there) there[there.matches("section") ? "prepend" : "before"](said);
-addEventListener("load", () => setTimeout(() => {  // behind the browser, which goes to where the address leads
+function toWhatIsSaid() {
   (document.querySelector("[aria-describedby^='fault-']") ?? document.querySelector("[data-focus]"))?.focus();
-}));
+}
+addEventListener("load", () => setTimeout(toWhatIsSaid));  // behind the browser, which goes to where the address leads
 
 // files: chosen or dropped, a folder too
 const drop = document.getElementById("drop");
@@ -111,9 +112,14 @@ if (drop) {
     line.textContent = drop.dataset.working;
     try {
       const answer = await fetch(drop.action, {method: "POST", body: form, credentials: "same-origin"});
-      if (answer.redirected) location.href = answer.url;
-      else document.querySelector("main").replaceChildren(
-        ...new DOMParser().parseFromString(await answer.text(), "text/html").querySelector("main").children);
+      if (answer.redirected) {
+        location.href = answer.url;
+        return;
+      }
+      const found = new DOMParser().parseFromString(await answer.text(), "text/html");
+      document.title = found.title;
+      document.querySelector("main").replaceChildren(...found.querySelector("main").children);
+      toWhatIsSaid();
     } catch {
       line.textContent = drop.dataset.nothing;
     }
