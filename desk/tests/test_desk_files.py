@@ -461,6 +461,7 @@ class TestFiles(Uploads):
         self.assertIn("Import entries", self.browser.words(self.propose(page)))
         _, text = self.browser.post("/propose/files", page, 422, upload=page[-12:], choice="withdraw")
         self.assertRegex(text, 'id="fault-files-choice"[^>]*>this can be done to 0 of the rows')
+        self.assertEqual((text.count('id="at-files-choice"'), text.count('describedby="fault-files-choice"')), (1, 3))
         page = self.upload(("june.csv", f"number,paper\n{''.join(live[:2] + new[:1])}".encode()))
         self.propose(page, 422)
         self.carry_out(self.propose(page, choice="withdraw"))
