@@ -32,6 +32,7 @@ if TYPE_CHECKING:
 DESK = os.path.dirname(os.path.realpath(__file__))
 OFFICE = os.path.join(DESK, "office")
 BAR = 24  # letters of a bar that is full
+MOST_LINE = 1 << 16  # bytes of a line on standard input
 MANY, FEW = 500, 100  # of so many questions, the progress is shown after each few
 READ_AS: dict[str, Callable[[str], str]] = {"number": typed.number}  # by the name of an argument
 CLEAR = "\r\x1b[K"  # a terminal takes away the line on which it writes
@@ -86,6 +87,16 @@ def given(parser: Parser, *words: str) -> argparse.Namespace:
             parser.add_argument(bare, metavar=bare.upper(), nargs=name[-1], default=[] if name[-1] == "*" else None,
                                 type=kind, help=meaning)
     return parser.parse_intermixed_args()
+
+
+def with_reason(words: list[str]) -> list[str]:
+    """The words of a command that ends with a reason; for a `-` the line of standard input that has it, so that it is in
+    no history of a shell."""
+    if words[-1] == "-":
+        if sys.stdin.isatty():
+            say("reason or answer, in one line: ")
+        words[-1] = sys.stdin.buffer.readline(MOST_LINE).decode("utf-8", "surrogateescape").rstrip("\r\n")
+    return words
 
 
 def begin() -> None:
@@ -143,8 +154,18 @@ def say(text: str) -> None:
         sys.stdout.flush()
 
 
-def say_lines(lines: Iterable[str]) -> None:
-    say("".join(f"{plain(line)}\n" for line in lines))
+def say_lines(lines: Iterable[str], is_private: bool = False) -> None:
+    (say_private if is_private else say)("".join(f"{plain(line)}\n" for line in lines))
+
+
+def say_private(text: str) -> None:
+    """As `say`, of what may be of health or holds codes. It warns of a file that a shell made for others to read."""
+    with contextlib.suppress(OSError):
+        path = os.path.realpath("/proc/self/fd/1")
+        if os.path.isfile(path) and beside.others_can_read(path):
+            name = os.path.basename(path)
+            warn(f"NOTE other users can read {name}: `chmod go= {name}` now, and `umask 077` before the next")
+    say(text)
 
 
 def ask(question: str) -> None:

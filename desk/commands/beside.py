@@ -96,7 +96,7 @@ def notes(parser: command.Parser) -> None:
     office = command.office()
     with command.rows() as rows:
         if not given.file:
-            command.say(texts.notes(office, rows))
+            command.say_private(texts.notes(office, rows))
             return
         known = set(facts.candidate_names(rows))
     texts_given = files.texts_by_number(files.read(given.file), given.file, "text", notebook.MOST_NOTE_BYTES, known)

@@ -71,13 +71,14 @@ Lodges an appeal at the counter, for a candidate who is there: lodge NUMBER SESS
 
 It goes the candidates' way, over HTTP, with the candidate's code from the file, through `keep` where that serves. It
 makes the reference, D1, D2 and so on, and prints it with the state. Then decide it: `office decide 0001051 D1 ..`.
+With - as REASON it reads the reason from standard input: so it is in no history and in no list of processes.
 """, changes=True)
 def lodge(parser: command.Parser) -> command.Plan:
     from commands import programs
     from exam_desk import typed
     words = command.given_as_typed(parser, "NUMBER SESSION KIND VALUE .. REASON")
     words[:1] = map(typed.number, words[:1])
-    if wrong := typed.wrong_of_lodging(words):
+    if wrong := typed.wrong_of_lodging(words) or typed.wrong_of_lodging(command.with_reason(words)):
         parser.error("; ".join(wrong))
     return programs.Lodging(words=words)
 

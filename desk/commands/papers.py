@@ -41,13 +41,19 @@ Prints the invigilators' sheets of a session, each hall on a page of its own: do
 
 A page for a browser, on A4: by desk the number, name, paper, finish, arrangement and note of each candidate, and a box
 to sign. The heading stands on each page again. A hall in which nobody sits has no sheet. It is for invigilators: who
-has which arrangement is private. For the door take `office poster`.
+has which arrangement is private. For the door take `office poster`, for candidates to sign `office signatures`.
 """),
     "poster": ("session hall*", """Prints the posters for the doors of a session: poster SESSION [HALL ..] >poster.html
 
 A page for a browser, on A4: each hall from a page of its own on, with a heading that is read from afar, and by name the
 desk of each candidate in three columns. Only namesakes of the session, in whichever halls, have their numbers beside
 the name, so each knows which door is theirs. It shows no paper and no arrangement.
+"""),
+    "signatures": ("session hall*", """\
+Prints the lists that the candidates of a session sign: signatures SESSION [HALL ..] >signatures.html
+
+A page for a browser, on A4: each hall from a page of its own on, by desk number, name and paper of each candidate, and a
+box to sign. It shows no arrangement, no note and no finish, as the invigilators' sheets of `office doors` do.
 """),
     "summary": ("session*", """\
 Prints a line for each session, with all its counts: summary [SESSION ..]
@@ -72,7 +78,7 @@ def print_page(name: str, words: str, parser: command.Parser) -> None:
                 raise
             command.warn(trouble)
             text = make(reading, session, trouble.others)
-        command.say(text)
+        (command.say_private if name == "doors" else command.say)(text)
 
 
 for page, (taken, text) in PAGES.items():
@@ -116,7 +122,7 @@ def session_page(parser: command.Parser) -> bool:
     given = command.given(parser, "session")
     with command.reading() as reading:
         page = Page(reading, given.session)
-        command.say(page.document())
+        command.say_private(page.document())
     return warned(page.faults)
 
 
@@ -144,13 +150,13 @@ def slips(parser: command.Parser) -> None:
     choice = slips.Choice(given.session, given.only, given.codes, given.desks, groups)
     make = slips.csv_text if given.csv else slips.page
     if choice.only:
-        command.say(of_few(command.office(), lambda reading: make(reading, choice)))
+        command.say_private(of_few(command.office(), lambda reading: make(reading, choice)))
         return
     with command.reading() as reading:
         text = make(reading, choice)
         for line in slips.beside_groups(reading, groups):
             command.warn(line)
-    command.say(text)
+    command.say_private(text)
 
 
 @command.named("""\
@@ -163,7 +169,7 @@ def appeals_open(parser: command.Parser) -> None:
     given = command.given(parser, "session*")
     with command.rows() as rows:
         lines = appeals.open_lines(rows, command.today().isoformat(), given.session)
-    command.say_lines(lines or ["no appeal is open"])
+    command.say_lines(lines or ["no appeal is open"], is_private=True)
 
 
 @command.named("""Says who must be told: all sessions compared with a copy of the office: changes BACKUP [SESSION ..]
@@ -193,7 +199,7 @@ def changes(parser: command.Parser) -> None:
             text = papers.changes(before, after, told, since)
         else:
             text = telling.text(found, given.tell)
-    command.say(text)
+    command.say_private(text)
 
 
 def backup(office: Office, path: str) -> tuple[str, str]:
@@ -257,7 +263,7 @@ def look(parser: command.Parser) -> None:
         lines = of_few(command.office(), lambda reading: texts.asked_lines(reading, asked, given.codes))
     else:
         parser.error("name a candidate")
-    command.say_lines(lines)
+    command.say_lines(lines, is_private=True)
 
 
 @command.named("""\
@@ -300,6 +306,6 @@ def why(parser: command.Parser) -> bool:
         found, printed = reasons.compared(reading, given.session)
         faults = list(found.faults(printed))
         helpful = [] if number else remedies.lines(reading.rows, found, printed)
-    command.say(found.text(number))
+    command.say_private(found.text(number))
     command.say_lines(helpful)
     return warned(faults)

@@ -29,6 +29,11 @@ With the entries of a file, whose header is number,paper: office {0} --list FILE
 ALL_HELP = """
 Each entry of a candidate who leaves, in the same way: office withdraw NUMBER --all
 """
+DECIDE_HELP = """
+With - as the answer `office` reads it from standard input: so it is in no history, and in the list of processes only
+while the program decides.
+"""
+HELP = {"withdraw": LIST_HELP + ALL_HELP, "reinstate": LIST_HELP, "decide": DECIDE_HELP}  # behind that of the program
 MOST_NAMED = 20  # of those who lose a desk, move or sit otherwise
 
 
@@ -222,7 +227,7 @@ def run(office: Office, words: list[str]) -> int:
     """Runs a command of the program; the status."""
     if not {"-h", "--help"}.isdisjoint(itertools.takewhile(lambda word: word != "--", words)):
         found = running.help_text(office, words[0])
-        command.say(found + LIST_HELP.format(words[0]) * (words[0] in LISTED) + ALL_HELP * (words[0] == "withdraw"))
+        command.say(found + HELP.get(words[0], "").format(words[0]))
         return 0 if found else said(Step(tuple(words)), Ran(2, "", "line not understood\n"))
     if words[0] == "serve" and len(words) > 1:
         beside.refuse_stranger(office.path)
@@ -250,6 +255,9 @@ def dispatch(office: Office, words: list[str]) -> Ran:
             if is_lacking and ran.status == 0:
                 command.warn(f"NOTE {office.base_name()}-wal does not lie beside it: in a backup the last appeals may "
                              "be lacking")
+            if open_for_others := [each for each in (place, beside.folder(place)) if beside.others_can_read(each)]:
+                names = " ".join(map(os.path.basename, open_for_others))
+                command.warn(f"NOTE other users can read what lies here: `chmod -R go= {names}`")
             return ran
     if words[0] not in running.SHEETS:
         return running.run_over(office, office.path, *words, output=None)
@@ -273,6 +281,8 @@ def of_program(words: list[str]) -> Change | None:
         case ["reinstate", _, "--all"]:
             raise Trouble("--all goes with `withdraw` alone; `office back` lists the copy from before that, which "
                           "takes it back, and `office reinstate NUMBER PAPER` takes one entry back")
+        case ["decide", *_, _, _, _, "-"]:
+            words = command.with_reason(words)
     if words[0] not in CHANGES:
         return None
     first = 2 if words[1:2] == ["--"] else 1

@@ -8,6 +8,7 @@ anything there, a superuser neither.
 import contextlib
 import errno
 import os
+import pathlib
 import pwd
 import stat
 from collections.abc import Iterator
@@ -129,6 +130,12 @@ def refuse_strange(path: str) -> None:
     """Raises `Strange` where a folder is not to be trusted; one that is not there does no harm."""
     with contextlib.suppress(FileNotFoundError):
         os.close(opened(path, AS_FOLDER))
+
+
+def others_can_read(path: str) -> bool:
+    """Whether other users can come to a file or a folder, and read it."""
+    found = pathlib.Path(path).resolve()
+    return bool(found.stat().st_mode & 0o044) and all(folder.stat().st_mode & 0o011 for folder in found.parents)
 
 
 def sync(path: str) -> None:

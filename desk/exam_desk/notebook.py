@@ -31,7 +31,7 @@ MOST_NOTE_BYTES = 200
 MOST_ACROSS = 100  # desks in a row
 MOST_NAMED, MOST_LOGGED = 5, 20  # numbers in a refusal, and of one kind in a line of the log
 ATTENDANCE = ["session", "date", "number", "paper", "attendance"]
-STAFF = re.compile(r"[\s,;(]*\bstaff\s*:.*", re.I | re.S)  # of a note: its part for staff alone
+STAFF = re.compile(r"[\s,;(]*\b(staff|intern)\s*[:：].*", re.I | re.S)  # of a note: its part for staff alone
 Held = TypeVar("Held", bound=Collection[object])
 
 

@@ -1,6 +1,8 @@
 """What papers of a session were printed, as somebody noted it, and what of it is otherwise since then."""
 import datetime
+import hashlib
 import itertools
+import re
 from collections.abc import Iterable, Mapping
 from typing import Any, NamedTuple
 
@@ -46,7 +48,8 @@ class Move(NamedTuple):
         """What is another than the desk, each with its value on paper and now."""
         if not (self.printed and self.now):
             return []
-        return [each for each in zip(SHOWN, self.printed.shown, self.now.shown) if each[1] != each[2]]
+        return [(what, was and "one", now and ("another" if was else "one")) if what == "note" else (what, was, now)
+                for what, was, now in zip(SHOWN, self.printed.shown, self.now.shown) if was != now]
 
     def kinds(self) -> set[str]:
         """What is another, as ON has it."""
@@ -83,8 +86,8 @@ def noted(office: Office, session: str) -> Paper:
     found = notebook.read(office, f"printed.{session}", dict[str, list[Any]](), is_line)
     who, _, *when = found.pop(NOTED, ["", 0])
     common = {what: value for what, (value, *_) in found.items() if OF in what}
-    lines = {number: Line(Desk(hall, desk), shown if len(shown) == len(SHOWN) else [""] * len(SHOWN))
-             for number, (hall, desk, *shown) in found.items() if number not in common}
+    lines = {number: Line(Desk(hall, desk), [*shown[:-1], sum_of(shown[-1])] if len(shown) == len(SHOWN) else
+                          [""] * len(SHOWN)) for number, (hall, desk, *shown) in found.items() if number not in common}
     return Paper(lines, common, who, "".join(when))
 
 
@@ -94,7 +97,13 @@ def lines_of(reading: Reading, session: str, members: Iterable[Member]) -> dict[
     missed = reading.clashes(session, facts.entered(reading.rows, session, 2, {each.number for each in members}))
     return {number: Line(Desk(sits.hall or "", sits.desk or 0), [
         name, sits.paper, sits.date, sits.start, sits.finish, "+".join(sits.needs), str(sits.extra),
-        "+".join(missed.get(number, ())), notes.get(number, "")]) for number, name, sits in members}
+        "+".join(missed.get(number, ())), sum_of(notes.get(number, ""))]) for number, name, sits in members}
+
+
+def sum_of(note: str) -> str:
+    """What stands here for a note. Its text may be of health, and goes where the note is taken away."""
+    is_sum = re.fullmatch("(#[0-9a-f]{12})?", note)
+    return note if is_sum else f"#{hashlib.sha256(note.encode()).hexdigest()[:12]}"
 
 
 def shared(reading: Reading, session: str) -> dict[str, str]:
@@ -141,7 +150,7 @@ def otherwise(office: Office, notes: Mapping[str, str], common: Mapping[str, str
     found = dict[str, Papers]()
     for code in notebook.sessions_with(office, "printed"):
         paper = noted(office, code)
-        moves = (Move(number, "", line, line._replace(shown=[*line.shown[:-1], notes[number]]))
+        moves = (Move(number, "", line, line._replace(shown=[*line.shown[:-1], sum_of(notes[number])]))
                  for number, line in paper.lines.items() if number in notes)
         found[code] = out_of_date(moves, (what for what, *_ in others(paper.shared, common)), paper.lines)
     return {code: papers for code, papers in found.items() if papers}

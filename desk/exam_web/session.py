@@ -30,9 +30,9 @@ MOST_SUPPOSED = 14  # desks in a row, where nobody said how many
 
 
 SHEETS = {  # what the papers of a session are called, by the command that prints each
-    "doors": "Invigilators' sheets to sign", "poster": "Posters for doors", "cards": "Desk cards",
-    "chart": "Seating charts", "slips": "Slips for candidates, with desk numbers", "board": "Notice board by name",
-    "counts": "Copies of each paper"}
+    "doors": "Invigilators' sheets", "signatures": "Lists for candidates to sign", "poster": "Posters for doors",
+    "cards": "Desk cards", "chart": "Seating charts", "slips": "Slips for candidates, with desk numbers",
+    "board": "Notice board by name", "counts": "Copies of each paper"}
 
 
 class Session:

@@ -21,7 +21,7 @@ class TestPrinting(DeskSchool):
         for hall, in self.rows("SELECT hall FROM opening WHERE session = 'MON-AM'"):
             self.office("rows", hall, "6")
         sheets = re.findall(r'/sessions/MON-AM/print/(\w+)"', self.browser.get("/sessions/MON-AM"))
-        self.assertEqual(sorted(sheets), ["board", "cards", "chart", "counts", "doors", "poster", "slips"])
+        self.assertEqual(sorted(sheets), ["board", "cards", "chart", "counts", "doors", "poster", "signatures", "slips"])
         for sheet in sheets:
             options = ["--desks"] if sheet == "slips" else []
             self.assertEqual(self.browser.get(f"/sessions/MON-AM/print/{sheet}"),
@@ -78,7 +78,7 @@ class TestPrinting(DeskSchool):
             self.assertRegex(found, rf"{number} {was.replace(' ', ' desk ')} ")
         self.office("notes", self.write("notes.csv", "number,text\n0001306,<b>scribe\n"))
         self.assertRegex(self.browser.words(self.PRINTED + "?piece"),
-                         r"0001306 AULA desk 1 AULA desk \d+ Note: – → <b>scribe ")
+                         r"0001306 AULA desk 1 AULA desk \d+ Note: – → one ")
 
     def test_a_note_that_is_not_on_paper(self):
         said = "The papers of MON-AM are out of date: AULA"
@@ -129,7 +129,7 @@ class TestPrinting(DeskSchool):
 
     def test_a_rehearsal_says_which_printed_papers_would_be_out_of_date(self):
         """The halls that `office printed --look` names once it is done; nothing where nobody noted what is printed."""
-        line = ("Printed papers {} out of date: MON-AM (Invigilators' sheets to sign, Posters for doors, Desk cards, Seating "
+        line = ("Printed papers {} out of date: MON-AM (Invigilators' sheets, Posters for doors, Desk cards, Seating "
                 "charts: {}; Notice board by name, Copies of each paper, Slips for candidates, with desk numbers)")
         rehearse = "/propose/withdraw", "/candidates/1051"
         page, _ = self.browser.post(*rehearse, number="0001051", paper="CS-1")

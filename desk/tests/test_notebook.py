@@ -3,6 +3,7 @@ import csv
 import dataclasses
 import datetime
 import io
+import json
 import multiprocessing
 import os
 import pathlib
@@ -345,8 +346,8 @@ class Commands(sample.SampleSchool):
         """A line is another one where the desk is the same: each part of it that papers show, with old and new."""
         for words, said in (
                 (("name", "0001306", "Another Name"), "name Sami Nagy -> Another Name"),
-                (("notes", self.write("notes.csv", "number,text\n0001306,a scribe\n")), "note - -> a scribe"),
-                (("notes", self.write("other.csv", "number,text\n0001306,two\n")), "note a scribe -> two"),
+                (("notes", self.write("notes.csv", "number,text\n0001306,a scribe\n")), "note - -> one"),
+                (("notes", self.write("other.csv", "number,text\n0001306,two\n")), "note one -> another"),
                 (("import", "arrangements", self.write("a.csv", "number,needs,extra\n0001306,-,10\n")),
                  "finish 10:30 -> 10:39, extra 0 -> 10"),  # 90 minutes from 09:00, and 9 more
                 (("import", "sessions", self.write("s.csv", "session,date,start\nMON-AM,2027-06-08,08:30\n")),
@@ -400,6 +401,25 @@ class Commands(sample.SampleSchool):
                          "1 session has printed papers that are out of date: MON-AM (doors of AULA; slips)\n"
                          "`office printed MON-AM --look` lists them\n")
         self.assertEqual(self.run_office("notes", first).stderr, "")  # as on paper again
+
+    def test_no_text_of_a_note_is_kept_with_what_is_printed(self):
+        """A note that is taken away is gone; what an earlier version kept of it is compared as it is now."""
+        number, notes = "0001306", os.path.join(self.folder, "notes.csv")
+        for text, said in (("", "note - -> one"), ("a scribe", "note one -> another"), ("two", "note one -> -")):
+            self.write("notes.csv", f"number,text\n{number},{text}\n")
+            self.office("notes", notes)
+            self.office("printed", "MON-AM")
+            self.write("notes.csv", f"number,text\n{number},{'two' * (text != 'two')}\n")
+            self.run_office("notes", notes)
+            self.assertIn(f", {said}\n", self.office("printed", "MON-AM", "--look"))
+        printed = pathlib.Path(self.desk, "notebook", "printed.MON-AM.json")
+        self.assertNotIn("two", printed.read_text("ascii"))
+        self.write("notes.csv", f"number,text\n{number},two\n")
+        self.office("notes", notes)
+        held = json.loads(printed.read_bytes())
+        held[number][-1] = "two"
+        printed.write_text(json.dumps(held), "ascii")
+        self.assertEqual(self.office("printed", "MON-AM", "--look"), "the papers are up to date\n")
 
     def test_who_comes_moves_and_goes(self):
         """Of another hall neither the title nor the end is said, since they go with it; of another paper no title."""
@@ -455,7 +475,8 @@ class Commands(sample.SampleSchool):
         self.write("notes.csv", "number,text\n0001051,<b>rest</b> breaks\n")
         self.office("notes", "notes.csv")
         for words, shown in ((["doors", "MON-AM", "PC1"], True), (["slips", "--only", "0001051"], True),
-                             (["board", "MON-AM"], False), (["poster", "MON-AM"], False), (["cards", "MON-AM"], False)):
+                             (["signatures", "MON-AM", "PC1"], False), (["board", "MON-AM"], False),
+                             (["poster", "MON-AM"], False), (["cards", "MON-AM"], False)):
             text = self.office(*words)
             self.assertEqual("&lt;b&gt;rest&lt;/b&gt; breaks" in text, shown, words)
             self.assertNotIn("<b>rest", text)
@@ -473,7 +494,8 @@ class Commands(sample.SampleSchool):
 
     def test_what_is_for_staff_alone(self):
         """It stands on the invigilators' sheet, and is on no slip; a note alone says that the finish may be later."""
-        for note, slip in (("rest breaks; staff: call the nurse", "rest breaks"), ("Staff : call the nurse", "")):
+        for note, slip in (("rest breaks; staff: call the nurse", "rest breaks"), ("Staff : call the nurse", ""),
+                           ("Pause (intern：Pflege", "Pause")):
             self.office("notes", self.write("notes.csv", f"number,text\n0001051,{note}\n"))
             doors = self.office("doors", "MON-AM", "PC1")
             self.assertIn(f"<bdi>{note}</bdi>", doors)
@@ -482,7 +504,7 @@ class Commands(sample.SampleSchool):
                              [slip] * (slip != ""))
             [letter, *_] = csv.DictReader(self.office("slips", "--csv", "--only", "1051").split("\n"))
             self.assertEqual(letter["note"], slip)
-        for note in ("overstaff: a", "a staff member reads"):
+        for note in ("overstaff: a", "a staff member reads", "internal: a"):
             self.assertEqual(notebook.STAFF.sub("", note), note)
 
 

@@ -1,6 +1,7 @@
 """The front script over the sample school: refusals in words, copies and `back`, the log."""
 import io
 import os
+import pathlib
 import re
 import shutil
 import sqlite3
@@ -74,6 +75,49 @@ class Words(sample.SampleSchool):
                          "added 0 changed 0 same 1\n")
         self.assertIn("  stdin line 2: number '1000': leading zeros lost?",
                       self.refused("import", "entries", "/dev/stdin", stdin="number,paper\n1000,MA-1\n"))
+
+    def test_a_reason_from_standard_input(self):
+        """Of a lodging and of its decision; it is as wrong there as among the words."""
+        reason = '"Angst" <b> é'
+        said = self.office("lodge", "1051", "MON-AM", "hall", "PC1", "-", stdin=f"{reason}\nmore\n")
+        self.assertEqual(said, "0001051 D1 open\n")
+        self.assertIn("at most 200 bytes", self.run_office(
+            "lodge", "1051", "TUE-AM", "arrangement", "-", "25", "-", stdin="a" * 201).stderr)
+        self.assertIn("decided refused", self.office("what-if", "decide", "1051", "D1", "refused", "-", stdin="no\n"))
+        self.office("decide", "1051", "D1", "refused", "-", stdin="-")
+        self.assertIn(f"    reason: {reason}\n    answer: -\n", self.office("look", "1051"))
+        log = pathlib.Path(self.desk, "log").read_text("utf-8")
+        self.assertNotIn("Angst", log)
+
+    def test_a_file_that_others_can_read(self):
+        """The shell makes the file: a note says that it holds what is private, unless a folder keeps others out."""
+        is_open = all(above.stat().st_mode & 0o011 for above in pathlib.Path(self.folder).parents)
+        for words, mode, folder, is_said in (
+                (["slips", "--codes"], 0o644, 0o755, True), (["doors", "MON-AM"], 0o640, 0o755, True),
+                (["look", "1051"], 0o600, 0o755, False), (["look", "1051"], 0o644, 0o700, False),
+                (["look", "1051"], 0o604, 0o755, True), (["poster", "MON-AM"], 0o644, 0o755, False)):
+            os.chmod(self.folder, folder)
+            path = self.write("page.html", "")
+            os.chmod(path, mode)
+            with open(path, "wb") as page:
+                done = subprocess.run([sample.DESK / "office", *words], env=self.environment, stdout=page,
+                                      stderr=subprocess.PIPE, encoding="utf-8", check=False)
+            self.assertEqual((done.returncode, done.stderr.startswith("office: NOTE other users can read page.html")),
+                             (0, is_said and is_open), (words, done.stderr))
+
+    def test_an_office_that_others_can_read(self):
+        """As one that was unpacked without `umask 077`; a folder that keeps others out is enough."""
+        is_open = all(above.stat().st_mode & 0o011 for above in pathlib.Path(self.folder).parents)
+        self.office("check")
+        for path, folder, said in ((self.path, 0o755, "office.db"), (self.desk, 0o755, "desk-office.db"),
+                                   (self.path, 0o700, "")):
+            os.chmod(self.folder, folder)
+            mode = os.stat(path).st_mode
+            os.chmod(path, mode | 0o044)
+            note = f"office: NOTE other users can read what lies here: `chmod -R go= {said}`\n" * (said != "" and is_open)
+            done = self.run_office("check")
+            self.assertEqual((done.stdout, done.stderr), ("good\n", note))
+            os.chmod(path, mode)
 
     def test_what_is_wrong_with_a_row(self):
         for row, text in [("0001000,A,B,WK3DEGZDPC", "4 in place of 3 fields; put a value with a comma in double quotes"),

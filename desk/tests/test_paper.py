@@ -17,8 +17,8 @@ from exam_desk import snapshot  # beside the tests' folder
 from exam_desk.reading import Reading
 from exam_desk.sheets import session_page
 
-PAGES = [["slips"], *([name, "MON-AM"] for name in ("board", "doors", "poster", "cards", "chart", "counts",
-                                                   "session-page"))]
+PAGES = [["slips"], *([name, "MON-AM"] for name in ("board", "doors", "signatures", "poster", "cards", "chart",
+                                                   "counts", "session-page"))]
 LONG = ["W" * 80, "von " * 19 + "Hohe", "\u5c71\u7530" * 13, "e\u0301" * 26, "a" + "\u0335\u0321" * 19]  # of 80 bytes
 # Counts cards whose last line stands below them, texts of cards that are cut, and the heights of a chart's rows.
 LOOK = """<script>
@@ -123,6 +123,14 @@ class Papers(sample.SampleSchool):
                          [["Present", " \N{EN SPACE} Absent", " \N{EN SPACE} Scripts", " \N{EN SPACE} Collected by"]])
         self.assertIn("nobody sits in PC9 in MON-AM; somebody sits in AULA, GYM, LIB, PC1, R12\n",
                       self.refused("doors", "MON-AM", "PC9"))
+
+    def test_signatures(self):
+        """By desk, without what the invigilators' sheet has besides: no finish, as it tells of extra time."""
+        rows, sheet = ([row for row in self.rows(name, "MON-AM", "LIB") if row[0].isdigit()]
+                       for name in ("signatures", "doors"))
+        self.assertEqual(rows, [[*row[:4], ""] for row in sheet])
+        self.assertTrue(any(row[5] for row in sheet))
+        self.assertIn("nobody sits in NONE", self.refused("signatures", "MON-AM", "NONE"))
 
     def test_counts(self):
         rows = self.rows("counts", "TUE-AM")

@@ -36,6 +36,7 @@ ALL_COPIES = ["Paper, all halls", "n:Copies", "n:Last finish"]
 TOLD = ["w:Session", "w:Number", "Name", "Before", "Now", "box:Told"]
 SAT = "{}<br>{}<br>{}, <span class=w>{}–{}</span>"
 
+SIGNED = ["n:Desk", "w:Number", "Name", "Paper", "sign:Signature"]
 DOORS = ["n:Desk", "w:Number", "Name", "Paper", "w:Finish", "Arrangement", "sign:Signature"]
 LATER = "or later"  # below the finish of who has a note, since it may be of rest breaks
 ABOVE = "<span>{}<br>open until {}, last finish {}<br>{}, {} expected</span><b>{}</b><br>{}, page {} of {}<br>{}"
@@ -204,6 +205,16 @@ def doors(reading: Reading, session: str, asked: Collection[str] = ()) -> str:
         for page in of_door(heading, titles, opening, there, others.get(opening.hall, []),
                             [row_of(member, papers, told[member.number], printed, member.number in notes)
                              for member in there])), "doors")
+
+
+def signatures(reading: Reading, session: str, asked: Collection[str] = ()) -> str:
+    """Lists for candidates to sign, each hall from a page of its own on, by desk, with nothing that others need not
+    know."""
+    papers, heading = paper_names(reading.rows, CODE), school(reading.office, "<br>") + when(reading, session)
+    return of_desks(reading, session, "Lists to sign", (
+        table(SIGNED, [[sits.desk, number, text(name), papers[sits.paper], ""] for number, name, sits in there],
+              html("{}<br><b>{}</b>", heading, text(opening.title)))
+        for opening, there in lists.halls(reading, session, asked)), "doors")
 
 
 def elsewhere(made: Mapping[str, sqlite3.Row], starts: Mapping[str, int], sits: Sitting, all_of: Collection[Sitting]
