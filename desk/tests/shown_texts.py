@@ -22,7 +22,7 @@ from exam_desk import (appeals, backups, copies, files, keeping, logbook, mistak
                        refusals, second_sitting, typed, words)
 from exam_desk.sheets import slips  # noqa: E402
 from exam_desk.workbook import cells, opening  # noqa: E402
-from exam_web import application, desk, forms, proposals, session, wording  # noqa: E402
+from exam_web import application, desk, proposals, session, wording  # noqa: E402
 
 DAYS = [datetime.date(2027, 3, day) for day in range(1, 8)]
 MONTHS = [datetime.date(2027, month, 1) for month in range(1, 13)]

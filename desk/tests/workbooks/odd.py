@@ -4,7 +4,6 @@ import zipfile
 
 from cases import (ADA, ADA_LINE, ARRANGEMENTS, BO, BO_LINE, CANDIDATES, ENTRIES, HALLS, OPENINGS, PAPERS, SESSIONS, candidates,
                    sheet)
-from harder import own_sheet, row_xml
 from rawbook import MAIN, TIME, ods, ods_row, xlsx, zipped
 
 CASES = []
