@@ -164,7 +164,7 @@ class TestHalls(Rows):
     def newest(self):
         """What the newest copy is from before, as the browser and the terminal say it."""
         named = self.office("back").splitlines()[0].partition("  before ")[2]
-        self.assertIn(f"<td><bdi>{named}</bdi></td>", self.browser.get("/office"))
+        self.assertIn(f'<td><bdi lang="en">{named}</bdi></td>', self.browser.get("/office"))
         return named
 
     def test_how_it_is_open(self):
