@@ -73,9 +73,8 @@ def let_go(_: BaseException | None) -> None:
 def everywhere() -> dict[str, Any]:
     """What every page has besides its own."""
     here, visit = desk(), g.get("visit") or guard.Visit("", mark="")  # a stranger's, where there is none
-    said: list[tuple[str, Any]] = []
-    if "piece" not in request.args:  # a piece of a page shows none
-        said, visit.said = visit.said, []
+    is_next = "piece" not in request.args and not g.get("is_reading")  # the page that says what was done
+    said, visit.said = (visit.said, []) if is_next else ([], visit.said)
     if (left := visit.proposals.get(request.args.get("again", ""))) and not left.is_done:
         said.append(("", text("Nothing was done. The form is as you left it.")))
     asked = g.get("asked") or (left.asked if left else forms.Asked())
@@ -88,6 +87,7 @@ def everywhere() -> dict[str, Any]:
 
 
 def still_reading(stage: StillReading) -> ResponseReturnValue:
+    g.is_reading = True
     return render_template("reading.html", stage=text(str(stage))), 503, {"Retry-After": "1"}
 
 

@@ -95,8 +95,9 @@ def note(number: int) -> Response:
 
 
 @pages.get("/candidates/notes")
-def all_notes() -> Response:
-    return Response(texts.notes(desk().office, view().reading.rows), mimetype="text/plain")
+def all_notes() -> str:
+    return render_template("notes.html", notes=notebook.notes(desk().office),
+                           names=facts.candidate_names(view().reading.rows))
 
 
 @pages.post("/candidates/slips")

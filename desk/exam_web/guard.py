@@ -176,7 +176,7 @@ def enter() -> Response | tuple[str, int]:
 
 @pages.post("/leave")
 def leave() -> Response:
-    answer = redirect(url_for("entering.page"), 303)
+    answer = redirect(url_for("entering.page", ended=1), 303)
     current_app.extensions["guard"].end(answer)
     g.visit = None
     return answer

@@ -26,7 +26,11 @@ DESK = pathlib.Path(__file__).resolve().parent.parent
 COMMAND = str(DESK / "office")
 HANDBOOKS = [DESK.parent / "docs/HANDBOOK.md", DESK.parent.parent / "doc/examoffice/HANDBOOK.md"]
 HANDBOOK = next(filter(pathlib.Path.is_file, HANDBOOKS), None)  # none where a system installs no documentation
-PLACE_IN_IT = re.compile(r"\[([^][]+)\]\((#[a-z0-9-]+)\)")  # a link to a chapter
+ITEM = re.compile(r"^(- |[0-9]+\. )", re.M)  # of a list in it
+CODE, FORMS = re.compile("`([^`]+)`"), [  # of words in it, as HTML; of a link elsewhere the words stay
+    (re.compile(form, re.S), shown) for form, shown in (
+        (r"\[([^][]+)\]\((#[a-z0-9-]+)\)", r'<a href="\2">\1</a>'), (r"\[([^][]+)\]\([^()]+\)", r"\1"),
+        (r"\*\*(.+?)\*\*", r"<strong>\1</strong>"), (r"\*(.+?)\*", r"<em>\1</em>"))]
 LOWEST_PORT, HIGHEST_PORT = 1024, 65535
 
 
@@ -155,10 +159,17 @@ def school() -> Response:
 @pages.get("/handbook")
 def handbook() -> str:
     """The handbook as it lies beside the desk, in its chapters."""
-    found = str(escape((HANDBOOK or abort(404)).read_text("utf-8")))
-    _, title, first, *chapters = re.split("^#+ (.+)\n", PLACE_IN_IT.sub(r'<a href="\2">\1</a>', found), flags=re.M)
-    return render_template("handbook.html", title=title, first=Markup(first),
-                           chapters=zip(chapters[::2], map(Markup, chapters[1::2])))
+    _, title, *parts = re.split("^#+ (.+)\n", (HANDBOOK or abort(404)).read_text("utf-8"), flags=re.M)
+    return render_template("handbook.html", title=title, first=parts[0], items=ITEM.split, words=words,
+                           chapters=zip(parts[1::2], parts[2::2]))
+
+
+def words(text: str) -> Markup:
+    """Words of the handbook; nothing that stands in code is a form."""
+    found = CODE.sub(lambda code: f"<code>{code[1].translate({42: '&#42;', 91: '&#91;'})}</code>", str(escape(text)))
+    for form, shown in FORMS:
+        found = form.sub(shown, found)
+    return Markup(found)
 
 
 @pages.post("/office/keep")
@@ -167,7 +178,7 @@ def keep() -> Response:
     what, port = request.form.get("what"), request.form.get("port", "")
     if what == "stop":
         keeping.stop(office())
-        return lead("office.page", _anchor="serve")
+        return lead("office.page", text("Candidates are not served any more."), _anchor="serve")
     if what != "start":
         abort(400)
     if not (re.fullmatch("[0-9]{1,5}", port) and LOWEST_PORT <= int(port) <= HIGHEST_PORT):

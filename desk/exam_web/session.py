@@ -24,7 +24,7 @@ from exam_web.wording import many, text
 pages = Blueprint("session", __name__)
 MOST_PEOPLE = 100  # that a page lists for one reason
 MOST_EXPLAINED = 30
-WIDTH, HEIGHT, GAP = 78, 38, 5  # of a desk in a picture, and from one to the next
+WIDTH, HEIGHT, GAP = 78, 50, 5  # of a desk in a picture, and from one to the next
 RUNNING = dict(zip(notebook.RUNNING, ("along the rows", "along and back", "down the columns", "down and up")))
 MOST_SUPPOSED = 14  # desks in a row, where nobody said how many
 
@@ -142,6 +142,7 @@ def draw(code: str) -> Response:
     for hall, rows in drawn.items():
         notebook.keep_rows(office(), hall, rows)
         tell_papers(on_paper.otherwise(office(), {}, {on_paper.OF_ROWS.format(hall): str(rows)}))
+    g.visit.said += [] if is_chart else [("good", text("{hall} is drawn so now.", hall=halls[0]))]  # beside its picture
     return lead(charts[0], **charts[1]) if is_chart else lead("session.page", code=code, _anchor=f"hall-{halls[0]}")
 
 

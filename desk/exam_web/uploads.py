@@ -157,7 +157,7 @@ def correct(key: str) -> Response:
     found.edits += rows
     said = many(rows, "{count} row is corrected in what was uploaded; your own files are as they were.",
                 "{count} rows are corrected in what was uploaded; your own files are as they were.")
-    return lead("files.look", said, key=key)
+    return lead("files.look", said, "good" if rows else "bad", key=key)
 
 
 @pages.post("/files/uploaded/<key>/again")

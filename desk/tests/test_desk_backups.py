@@ -90,7 +90,7 @@ class TestBroughtBack(Backups):
                                       "its 100 candidates and 1 of its 2 sessions are not in the office: is it another "
                                       "school's?")
             self.assertEqual(len(lost), said, lost)
-            self.assertLess(text.index("is it another school"), text.index("What would change"))
+            self.assertLess(text.index("is it another school"), text.index("<h2>What would change"))
             self.assertNotRegex(text, "<b>Dale|\u202e")
             sessions = text.partition('id="of-sessions"')[2].partition("</table>")[0]
             self.assertRegex(sessions, r'(?s)TUE-AM .*?<small>\d+ →</small> <b>–</b>')  # it is gone then

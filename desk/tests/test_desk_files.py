@@ -66,6 +66,20 @@ class TestFiles(Uploads):
         self.browser.post(f"/office/copies/{key}/back", f"/office/copies/{key}")
         self.assertEqual((self.seats(), self.rows("SELECT * FROM candidate WHERE number > 12000")), (before, []))
 
+    def test_who_hears_it_hears_what_is_wrong_in_a_cell(self):
+        page = self.upload(("entries.csv", b"number,paper\n12001,EN-1\n0001051,EN1\n"))
+        text = self.browser.get(page)
+        self.assertIn("<title>2 mistakes: Look through", text)
+        self.assertRegex(text, r'name="entries:3:paper"[^>]*aria-label="Paper in line 3 of entries\.csv"[^>]* '
+                               'aria-invalid="true" aria-describedby="entries-3-paper">')
+        self.assertEqual(text.count('id="entries-3-paper"'), 1)
+        self.assertGreater(text.rindex("and look again</button>"), text.rindex("aria-describedby"))  # behind the cells
+        for values, title in (({}, "Not done: 2 mistakes: "), ({"entries:2:number": "0001051"}, "done: 1 mistake: "),
+                              ({"entries:3:paper": "EN-1"}, "done: No mistake: ")):
+            self.browser.post(page + "/correct", page, **values)
+            self.assertIn(f"<title>{title}", self.browser.get(page))
+        self.assertIn("<title>Nothing could be taken: ", self.browser.get(self.upload(("a.pdf", b"x"))))
+
     def test_a_candidate_of_the_office_keeps_the_code(self):
         (number,), (other,) = self.rows("SELECT printf('%07d', number) FROM candidate ORDER BY number LIMIT 2")
         rows = f"number,name,code\n{number},Ada Marsh,\n{int(other)},Bo,\n0012001,Nadia,\n"
@@ -101,8 +115,8 @@ class TestFiles(Uploads):
             self.assertNotIn("office take", words)
         self.assertIn('name="codes" value="1" required', self.browser.get(page))  # so the browser asks for it there
         _, text = self.browser.post("/propose/files", page, 422, upload=page.rsplit("/", 1)[1])
-        self.assertIn('tick below that the desk makes them <a href="#fault-files-codes">', text)
-        self.assertIn('id="fault-files-codes"', text)
+        self.assertIn('<a href="#at-files-codes">Access code</a>: without an access code', text)
+        self.assertRegex(text, 'name="codes"[^>]* id="at-files-codes"')
         proposal = self.propose(page, codes="1")
         self.carry_out(proposal)
         self.assertEqual(self.rows("SELECT count(DISTINCT code) FROM candidate WHERE number >= 10000"), [(200,)])
@@ -447,6 +461,7 @@ class TestFiles(Uploads):
         self.assertIn("Import entries", self.browser.words(self.propose(page)))
         _, text = self.browser.post("/propose/files", page, 422, upload=page[-12:], choice="withdraw")
         self.assertRegex(text, 'id="fault-files-choice"[^>]*>this can be done to 0 of the rows')
+        self.assertEqual((text.count('id="at-files-choice"'), text.count('describedby="fault-files-choice"')), (1, 3))
         page = self.upload(("june.csv", f"number,paper\n{''.join(live[:2] + new[:1])}".encode()))
         self.propose(page, 422)
         self.carry_out(self.propose(page, choice="withdraw"))

@@ -131,9 +131,16 @@ class TestEntering(DeskSchool):
         self.assertNotIn("Domain", said)
 
     def test_locking_ends_the_visit(self):
-        self.browser.post("/leave", "/office")
+        where, _ = self.browser.post("/leave", "/office")
+        text = self.browser.get(where)
+        self.assertIn("<title>Your visit has ended. Exam desk</title>", text)
+        self.assertIn('tabindex="-1" autofocus>Your visit has ended.<', text)
         answer, _ = self.browser.ask("GET", "/office")
         self.assertEqual(answer.headers["Location"], self.browser.prefix + "/enter")
+        for values, place in (({"initials": "ab", "token": "x"}, "token"), ({"initials": "a b"}, "initials")):
+            _, text = self.browser.ask("POST", "/enter", urllib.parse.urlencode(values))
+            self.assertRegex(text, f'id="{place}"[^>]* autofocus')
+            self.assertEqual(text.count("autofocus"), 1)
 
     def test_a_form_that_outlives_its_visit_says_so_and_is_sent_by_the_next_one(self):
         text = self.browser.get("/candidates/1051")
@@ -206,7 +213,7 @@ class TestPages(DeskSchool):
         self.office("printed", "MON-AM")
         self.office("withdraw", "0001051", "CS-1")
         for path in (*SCREENS, *(f"/candidates/105{place}" for place in range(len(names))),
-                     "/candidates?q=%3Cscript%3E+nobody",
+                     "/candidates?q=%3Cscript%3E+nobody", "/candidates/notes",
                      "/appeals/1050/D1", "/appeals/1050/D1/if-granted", "/sessions/MON-AM/print/board"):
             text = self.browser.get(path)
             self.assertNotRegex(text, r"<script(?! src=)|<img|<b on|\u202e|\u2066", path)
@@ -214,10 +221,6 @@ class TestPages(DeskSchool):
         self.assertIn("not as on paper", self.browser.words("/sessions/MON-AM/printed"))
         _, text = self.browser.ask("GET", "/sessions/MON-AM/seats.csv")
         self.assertNotIn('"=HYPER', text)
-        answer, text = self.browser.ask("GET", "/candidates/notes")
-        self.assertEqual(answer.headers["Content-Type"], "text/plain; charset=utf-8")
-        self.assertIn("<script>x</script>", text)
-        self.assertNotIn("\u202e", text)
 
     def test_codes_are_shown_to_who_asks_alone(self):
         for path in SCREENS:

@@ -68,7 +68,7 @@ class TestPrinting(DeskSchool):
         self.assertIn(f"noted {when} by {who} still right", self.browser.words(self.PRINTED))
         self.office("withdraw", "0001051", "CS-1")
         *moves, halls = self.office("printed", "MON-AM", "--look").splitlines()
-        found = self.browser.words(self.PRINTED + "?piece")
+        found = self.browser.words(self.PRINTED + "?piece").replace(" (new tab)", "")
         self.assertIn("out of date: " + halls.removeprefix("to print again: doors, poster, cards of ").partition(";")[0] + " ", found)
         self.assertIn("PC1", halls)
         self.assertIn("And of the whole session: Slips for candidates, with desk numbers , Notice board by name ,", found)
@@ -204,7 +204,8 @@ class TestPrinting(DeskSchool):
         self.browser.post("/candidates/1051/note", "/candidates/1051", note=f" {note} ")
         self.assertIn(f' value="{note}"', html.unescape(self.browser.get("/candidates/1051")))
         self.assertEqual(self.office("notes"), f"0001051 Di Berg: {note}\n")
-        self.assertEqual(self.browser.get("/candidates/notes"), self.office("notes"))
+        self.assertIn(f'<a href="{self.browser.prefix}/candidates/1051"><bdi>Di Berg</bdi></a> <small>0001051</small></th>'
+                      f"<td><bdi>{note}</bdi></td>", html.unescape(self.browser.get("/candidates/notes")))
         for wrong in ("é" * 101, "a\nb", "a\x7f"):
             _, text = self.browser.post("/candidates/1051/note", "/candidates/1051", 422, note=wrong)
             self.assertRegex(text, 'name="note"[^>]*aria-invalid="true"')
@@ -213,7 +214,8 @@ class TestPrinting(DeskSchool):
         self.assertIn("somebody has changed it meanwhile", text)
         self.assertIn(f'name="was" value="{note}"', html.unescape(text))
         self.browser.post("/candidates/1051/note", "/candidates/1051", note="", was=note)
-        self.assertEqual((self.office("notes"), self.browser.get("/candidates/notes")), ("", ""))
+        self.assertEqual(self.office("notes"), "")
+        self.assertIn("None.", self.browser.words("/candidates/notes"))
         self.browser.post("/candidates/9999999/note", "/candidates/1051", 404, note="x")
 
     def test_who_was_absent_before_the_day(self):
@@ -263,9 +265,9 @@ class TestPrinting(DeskSchool):
 
     @staticmethod
     def place(number, across):
-        """Where a desk stands whose numbers run across and back, 83 by 43 from one to the next."""
+        """Where a desk stands whose numbers run across and back, 83 by 55 from one to the next."""
         row, column = divmod(number - 1, across)
-        return 2 + 83 * (across - 1 - column if row % 2 else column), 2 + 43 * row
+        return 2 + 83 * (across - 1 - column if row % 2 else column), 2 + 55 * row
 
 
 class TestTheDay(DeskSchool):
@@ -294,6 +296,7 @@ class TestTheDay(DeskSchool):
             self.assertRegex(text, 'name="numbers"[^>]*aria-invalid="true"')
         self.browser.post("/sessions/NONE/absent", page, 404, numbers="0001051")
         self.assertIn('name="was" value="0001051"', self.browser.get(page))  # whose tick is taken away was there
+        self.assertIn('aria-label="Absent: Di Berg, 0001051"', self.browser.get(page + "/halls/PC1"))
         self.browser.post(page + "/absent", page, was=["0001051"])
         self.assertIn(self.NOTHING_NOTED, self.browser.words(page))
         self.browser.post(page + "/absent", page, nobody="1")

@@ -40,11 +40,15 @@ class TestForms(test_desk_files.Uploads):
             return [each.result() for each in asked]
 
     def test_a_page_looks_again_by_itself(self):
+        self.browser.post("/office/school", "/office", name="Hill")
         with self.being_read():
             answer, text = self.browser.ask("GET", "/candidates/1051")
         self.assertEqual(answer.status, 503)
         self.assertIn('http-equiv="refresh"', text)
-        self.assertIn("CS-1", self.browser.get("/candidates/1051"))
+        self.assertNotIn("have its name now", text)  # what was done stays until it can be heard
+        text = self.browser.get("/candidates/1051")
+        self.assertIn("CS-1", text)
+        self.assertIn("have its name now", text)
 
     def test_as_many_as_the_desk_has_threads(self):
         text = self.browser.get("/candidates/1051")

@@ -260,41 +260,99 @@ class TestHearing(DeskSchool):
             for head, caption in tables:
                 name = re.search('aria-labelledby="([^"]+)"', head)
                 self.assertEqual(text.count(f'id="{name[1]}"') if name else bool(caption), 1, (path, head))
+            for rows in re.findall("<tbody>(.*?)</tbody>", text, re.S):  # what a row is about is its head
+                self.assertEqual(rows.count('<th scope="row"'), rows.count("<tr"), (path, rows[:200]))
 
     def test_what_is_wrong_is_in_the_title_and_at_the_field(self):
         self.assertIn("<title>Ada Lin · ", self.browser.get("/candidates/1000"))
         _, text = self.browser.post("/propose/lodge", "/candidates/1000", 422, number="0001000", session="MON-AM")
         self.assertIn("<title>Not done: Ada Lin · ", text)
-        self.assertIn('<a href="#fault-lodge-kind">', text)
-        self.assertRegex(text, 'name="kind" value="hall" [^>]*aria-invalid="true" aria-describedby="fault-lodge-kind"')
+        self.assertIn('<a href="#at-lodge-kind">Asks</a>: choose one', text)
+        self.assertRegex(text, 'name="kind" value="hall" [^>]*aria-invalid="true" aria-describedby="fault-lodge-kind" '
+                               'id="at-lodge-kind">')
         self.assertEqual(text.count('id="fault-lodge-kind"'), 1)
         _, text = self.browser.post("/propose/candidate", "/candidates", 422, number="x", name="")
-        self.assertRegex(text, r'Number: seven digits <a href="#fault-candidate-number">To the field</a>'
-                               r'<br>Name: 1 to 80 letters [^<]*<a href="#fault-candidate-name">')
+        self.assertRegex(text, '<a href="#at-candidate-number">Number</a>: seven digits'
+                               '<br><a href="#at-candidate-name">Name</a>: 1 to 80 letters')
 
     def test_what_is_wrong_names_its_field(self):
         self.office("lodge", "0001119", "MON-AM", "arrangement", "-", "25", "")
         monday = {"session": "MON-AM", "desks": "1", "until": "12:00"}
         for where, page, values, said in (
                 ("/propose/lodge", "/candidates/1000", {"number": "0001000", **monday, "kind": "arrangement",
-                 "wanted_extra": "x"}, "Extra time: a whole number from 0 to 100"),
+                 "wanted_extra": "x"}, "Extra time in percent: a whole number from 0 to 100"),
                 ("/propose/open", "/sessions/MON-AM", {**monday, "new_hall": "TENT"}, "Title: 1 to 80 letters"),
                 ("/propose/decide", "/appeals/1119/D1", {"number": "0001119", "ref": "D1"}, "Decide: choose one"),
+                ("/propose/decide", "/appeals/1119/D1", {"number": "0001119", "ref": "D1", "outcome": "refused",
+                 "reason": "x" * 201}, "Answer to the candidate: at most 200 letters"),
+                ("/propose/withdraw", "/candidates/1000", {"number": "0001000", "paper": "no", "key": "EN-1"},
+                 "Paper: 1 to 12 of A-Z"),
+                ("/propose/close", "/sessions/MON-AM", {"session": "MON-AM", "lost": "NONE", "key": "GYM"}, "Hall: "),
+                ("/sessions/MON-AM/absent", "/sessions/MON-AM", {"numbers": "x"}, "Numbers; zeros in front may be"),
                 ("/sessions/MON-AM/draw", "/sessions/MON-AM/halls/GYM", {"hall": "GYM", "across-GYM": "0"},
                  "Desks in a row GYM: a whole number from 1 to 100")):
             text = re.sub("</?bdi>", "", self.browser.post(where, page, 422, **values)[1])
-            self.assertIn(f"Nothing was done: {said}", text.partition('role="alert">')[2], where)
+            alert = re.search('role="alert"[^>]*>(Nothing was done: .*?)</p>', text)[1]
+            self.assertIn(f"Nothing was done: {said}", re.sub("<[^>]+>", "", alert), where)
+            for place in re.findall('href="#([^"]+)"', alert):
+                self.assertRegex(text, f'<(input|select|button|summary|span tabindex="-1")[^>]* id="{place}"', where)
+                self.assertEqual(text.count(f'id="{place}"'), 1, where)
 
     def test_each_field_has_a_word(self):
-        """But for those whose sentence says what to tick or to choose."""
         text = "".join(path.read_text("utf-8") for path in (DESK / "exam_web/templates").glob("*.html"))
-        fields = {*re.findall(r'\baria\("([a-z_]+)"|\bfield\(_\("[^"]+"\), "([a-z_]+)', text)}
-        known = re.findall('"([a-z_ ]+)": _', text.partition("macro column_word")[2].partition("endmacro")[0])
+        fields = {*re.findall(r'\b(?:aria|at)\("([a-z_]+)"|\bfield\(_\("[^"]+"\), "([a-z_]+)', text)}
+        known = re.findall('"(?:[a-z]+ )?([a-z_]+)": _', text.partition("macro column_word")[2].partition("macro row_")[0])
         self.assertGreater(len(fields), 20)
-        self.assertEqual({*map("".join, fields)} - {*known}, {"tick", "lost", "choice"})
+        self.assertEqual({*map("".join, fields)} - {*known}, set())
+
+    def heard(self, path):
+        """The title of a page up to its end, and what has the focus: the text up to the next tag."""
+        text = re.sub("</?bdi>", "", self.browser.get(path))
+        focus = re.search(r'tabindex="-1" data-focus>(?:<p class="said \w*">)?([^<]*)', text)
+        return re.search("<title>(.*?) · examoffice", text)[1], focus and focus[1]
+
+    def done(self, path, page, **values):
+        return self.heard(self.browser.post(path, page, **values)[0].partition("#")[0])
+
+    def test_what_a_form_did_is_in_the_title_and_has_the_focus(self):
+        monday = "/sessions/MON-AM"
+        for found, title, said in (
+                (self.done("/candidates/1000/note", "/candidates/1000", note="breaks"), "done: Ada Lin", "The note is kept."),
+                (self.done("/office/school", "/office", name="Hill"), "done: Office", "The papers of the school have"),
+                (self.done(monday + "/draw", monday, **{"hall": "GYM", "across-GYM": "6", "running-GYM": "down"}),
+                 "done: MON-AM", "GYM is drawn so now."),
+                (self.done(monday + "/printed", monday), "done: MON-AM", "58 desks of MON-AM are noted as printed"),
+                (self.done(monday + "/printed", monday, state="x"), "Not done: MON-AM", "Nothing is noted: the office")):
+            self.assertEqual(found[0], title)
+            self.assertTrue(found[1].startswith(said), found)
+        self.assertEqual(self.heard(monday), ("MON-AM", None))  # it is said once
+
+    def test_each_stage_of_a_change(self):
+        page, _ = self.browser.post("/propose/close", "/sessions/MON-AM", session="MON-AM", lost="R12", key="R12")
+        self.assertEqual(self.heard(page), ("rehearsal: Close R12 for MON-AM", None))
+        where = html.unescape(re.search(r'<a class="button" href="([^"]+)">Not now', self.browser.get(page))[1])
+        self.assertEqual(self.heard(where.removeprefix(self.browser.prefix).partition("#")[0]),
+                         ("Not done: MON-AM", "Nothing was done. The form is as you left it."))
+        self.office("withdraw", "0001051", "EN-1")
+        title, said = self.done(page + "/do", page)
+        self.assertEqual(title, "Not done: Close R12 for MON-AM")
+        self.assertIn("data-focus><b>The office changed while you looked", self.browser.get(page))
+        _, text = self.browser.post(page + "/do", page, (303, 422), tick="")
+        self.assertEqual(self.done(page + "/do", page)[0], "done: Close R12 for MON-AM")
+        self.assertIn('data-focus><span class="tag done">', self.browser.get(page))
+
+    def test_a_search_and_an_access_code(self):
+        self.assertEqual(self.heard("/candidates"), ("Candidates", None))
+        self.assertEqual(self.heard("/candidates?q=zz"), ("0 candidates: zz · Candidates",
+                                                          "No candidate has zz in the name or at the end of the number."))
+        title, said = self.heard("/candidates?q=1")
+        self.assertEqual(title.partition(":")[0], said)
+        _, text = self.browser.post("/candidates/1051/code", "/candidates/1051", 200)
+        self.assertIn("<title>Access code: Di Berg · ", text)
+        self.assertIn('<code class="secret" tabindex="-1" data-focus>VMGNZGEDP9<', text)
 
 
-HELP = r'<a href="([^"]+/handbook)#([^"]+)">([^<]+)</a>'
+HELP = r'<a hreflang="en" href="([^"]+/handbook)#([^"]+)">([^<]+)</a>'
 HANDBOOK = (TOP / "docs/HANDBOOK.md").read_text("utf-8")
 WITHOUT = """
 import datetime, sys
@@ -349,17 +407,37 @@ class TestHandbook(DeskSchool):
 
     def test_it_is_whole(self):
         book = self.browser.get("/handbook")
-        parts = re.sub("</?(h1|h2|pre|section)[^>]*>", "\n", book.partition("<article")[2].partition("</article>")[0])
-        shown = html.unescape(re.sub("<[^>]+>", "", parts))
-        for words in (shown, HANDBOOK):
-            self.assertGreater(len(words), 50_000)
-        words = re.sub(r"\[([^][]+)\]\(#[^()]+\)", r"\1", re.sub("^#+ ", "", HANDBOOK, flags=re.M))
-        self.assertEqual(shown.partition(">")[2].split(), words.split())
+        parts = book.partition("<article")[2].partition("</article>")[0].partition(">")[2]
+        shown = html.unescape(re.sub("<[^>]+>", " ", re.sub("</?(?:code|strong|em|a)(?: [^>]*)?>", "", parts)))
+        self.assertGreater(len(shown), 50_000)
+        self.assertEqual(shown.split(), self.words(HANDBOOK).split())
         for place in re.findall(r"\]\(#([^()]+)\)", HANDBOOK):
             self.assertIn(f'<a href="#{place}">', book)
             self.assertEqual(book.count(f'id="{place}"'), 1, place)
+
+    @staticmethod
+    def words(markdown):
+        """What stands there without the signs of its forms; in code all stands as it is."""
+        found = []
+        for block in re.split("\n\n+", re.sub("^#+ (.+)\n", r"\n\1\n\n", markdown, flags=re.M)):
+            if not block.startswith("    "):
+                block = re.sub(r"^(- |[0-9]+\. |\| |\|---.*)| \|( |$)", " ", block, flags=re.M)
+                block = re.sub(r"\[([^][]+)\]\([^()]+\)", r"\1", re.sub(r"`([^`]+)`|\*+", r"\1", block))
+            found.append(block)
+        return "\n".join(found)
+
+    def test_its_forms(self):
+        book = html.unescape(self.browser.get("/handbook"))
         self.assertIn("hall,title,features\\nC,Hall C,-\\n", book)  # as it stands there
-        self.assertIn("\n    SHORTAGE session S1\n    unseated 1\n", book)
+        self.assertRegex(book, r"<pre>    [^<]*\n    SHORTAGE session S1\n    unseated 1\n")
+        self.assertIn('<tr><th scope="row">on a clash</th><td>5 days before</td><td>2027-06-02</td></tr>', book)
+        self.assertIn('<tr><th scope="col">Screen</th><th scope="col">Has</th></tr></thead>', book)
+        self.assertIn("<li><strong>It never deletes</strong>: rows that", book)
+        self.assertIn('<ol start="4"><li><code>install -o www-data', book)
+        self.assertIn("<code>30 2 * * * cd /srv", book)  # no stress in code
+        self.assertIn('<a href="#two-papers-at-once"><code>office second-sitting</code></a>', book)
+        self.assertIn("After <em>Not now</em> the form", book)
+        self.assertIn("HTTP.md is about the web page", book)
 
 
 @unittest.skipUnless(HAS_FLASK, "Flask or waitress is missing")

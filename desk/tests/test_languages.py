@@ -10,6 +10,7 @@ import urllib.parse
 
 from desk_client import HAS_FLASK, MARK, PYTHON, DeskSchool
 from sample import DESK, KINDS
+from exam_desk.words import FEATURES
 
 SAY = """
 import flask, sys
@@ -123,6 +124,15 @@ class TestNoEnglish(DeskSchool):
         self.page("/propose/lodge", number="0001051", session="MON-AM", kind="hall", wanted_hall="PC1")  # it is refused
         self.page("/propose/close", session="TUE-AM", lost="GYM")
         self.page("/office/keep", what="start", port="x")
+
+    def test_features_and_the_names_of_files_are_marked(self):
+        for path, names in (("/candidates/1051", FEATURES), ("/papers/CS-1", FEATURES), ("/files", [*map("{}.csv".format, KINDS)]),
+                            ("/sessions/MON-AM/halls/PC1", FEATURES)):
+            _, text = self.browser.ask("GET", path, headers=GERMAN)
+            for name in names:
+                self.assertRegex(text, rf'<bdi lang="en">[^<]*{name}', path)
+            text = re.sub("<title>.*?</title>", "", text)  # of a seat: no part of it can bear a language
+            self.assertNotRegex(re.sub(MARKED, "><", text, flags=re.S), f">[^<]*({'|'.join(names)})[^<]*<")
 
     def test_second_sittings(self):
         form = {"number": "0001051", "session": "MON-AM", "paper": "LAT", "start": "11:00", "hall": "R14"}

@@ -1,10 +1,16 @@
 "use strict";
 document.documentElement.classList.add("js");
 
-// "/" goes to the search, as in many programs; Escape leaves a field
+// "/" goes to the search, as in many programs, unless the box on the page of candidates says no; Escape leaves a field
+const slash = document.getElementById("slash");
+if (slash) {
+  slash.closest("[hidden]").hidden = false;
+  slash.checked = localStorage.slash !== "no";
+  slash.addEventListener("change", () => { localStorage.slash = slash.checked ? "yes" : "no"; });
+}
 addEventListener("keydown", (event) => {
   const writes = event.target.closest("input, select, textarea");
-  if (event.key === "/" && !writes && !event.ctrlKey && !event.metaKey && !event.altKey) {
+  if (event.key === "/" && localStorage.slash !== "no" && !writes && !event.ctrlKey && !event.metaKey && !event.altKey) {
     event.preventDefault();
     document.getElementById("find")?.focus();
   } else if (event.key === "Escape" && writes) {
@@ -12,30 +18,34 @@ addEventListener("keydown", (event) => {
   }
 });
 
-// a form is sent once, and says that it works
+// a form is sent once, and says that it works; its button keeps the focus
+const status = document.getElementById("status");
 addEventListener("submit", (event) => {
   const form = event.target, button = event.submitter;
   if (form.target === "_blank" || form.method !== "post" || "file" in form.dataset) return;  // no page follows a file
-  setTimeout(() => {
-    for (const each of form.querySelectorAll("button")) each.disabled = true;
-    if (button && form.dataset.busy) {
-      button.dataset.was = button.textContent;
-      button.textContent = form.dataset.busy;
-    }
-  });
+  if (form.dataset.sent) {
+    event.preventDefault();
+    return;
+  }
+  form.dataset.sent = "1";
+  for (const each of form.querySelectorAll("button")) each.setAttribute("aria-disabled", "true");
+  if (button && form.dataset.busy) {
+    button.dataset.was = button.textContent;
+    status.textContent = button.textContent = form.dataset.busy;
+  }
 });
 function ready() {
-  for (const each of document.querySelectorAll("button")) {
-    each.disabled = false;
+  status.textContent = "";
+  for (const form of document.forms) delete form.dataset.sent;
+  for (const each of document.querySelectorAll("button[aria-disabled]")) {
+    each.removeAttribute("aria-disabled");
     if (each.dataset.was) each.textContent = each.dataset.was;
   }
 }
-addEventListener("pageshow", ready);
-
-// after a refusal: to the field that caused it, or to the line that says it
-(document.querySelector("[aria-invalid]") ?? document.querySelector("a[href^='#fault-']"))?.focus();
+addEventListener("pageshow", (event) => { if (event.persisted) ready(); });
 
 // a piece of a page that is made when it is asked for: a hall, what a grant would come to
+const lines = (piece) => [...piece.querySelectorAll("li")].map((each) => each.textContent);
 async function load(place) {
   if (place.dataset.loaded) return;
   place.dataset.loaded = "1";
@@ -45,7 +55,16 @@ async function load(place) {
     const answer = await fetch(`${place.dataset.load}?piece`, {credentials: "same-origin"});
     if (answer.status === 503) setTimeout(() => { delete place.dataset.loaded; load(place); }, 1000);  // it is being read
     if (answer.redirected || !answer.ok) throw new Error(answer.status);
-    piece.replaceChildren(document.createRange().createContextualFragment(await answer.text()));
+    const found = document.createRange().createContextualFragment(await answer.text());
+    const at = piece.contains(document.activeElement) && document.activeElement.getAttribute("href");
+    const had = lines(piece);
+    piece.replaceChildren(found);
+    if (at !== false) {  // the focus stays at its link, or near it
+      piece.tabIndex = -1;
+      ([...piece.querySelectorAll("a")].find((each) => each.getAttribute("href") === at) ?? piece).focus();
+    }
+    const fresh = lines(piece).filter((each) => !had.includes(each)).length;
+    if (fresh && place.dataset.more) status.textContent = `${place.dataset.more} ${fresh}`;
   } catch {
     delete place.dataset.loaded; // its link stays, and says why
   }
@@ -68,6 +87,14 @@ addEventListener("hashchange", open);
 open();
 if (halls.length && halls.length <= 12 && ![...halls].some((each) => each.open)) halls[0].open = true;
 
+// what a form came to has the focus: the field that is wrong, else what is said, which stands where the address leads
+const said = document.getElementById("said"), there = document.getElementById(location.hash.slice(1));
+if (said && there) there[there.matches("section") ? "prepend" : "before"](said);
+function toWhatIsSaid() {
+  (document.querySelector("[aria-describedby^='fault-']") ?? document.querySelector("[data-focus]"))?.focus();
+}
+addEventListener("load", () => setTimeout(toWhatIsSaid));  // behind the browser, which goes to where the address leads
+
 // files: chosen or dropped, a folder too
 const drop = document.getElementById("drop");
 if (drop) {
@@ -85,9 +112,14 @@ if (drop) {
     line.textContent = drop.dataset.working;
     try {
       const answer = await fetch(drop.action, {method: "POST", body: form, credentials: "same-origin"});
-      if (answer.redirected) location.href = answer.url;
-      else document.querySelector("main").replaceChildren(
-        ...new DOMParser().parseFromString(await answer.text(), "text/html").querySelector("main").children);
+      if (answer.redirected) {
+        location.href = answer.url;
+        return;
+      }
+      const found = new DOMParser().parseFromString(await answer.text(), "text/html");
+      document.title = found.title;
+      document.querySelector("main").replaceChildren(...found.querySelector("main").children);
+      toWhatIsSaid();
     } catch {
       line.textContent = drop.dataset.nothing;
     }
