@@ -3,6 +3,11 @@ import { TEXTS } from "./texts.js";
 
 export const byId = (id) => document.getElementById(id);
 
+/** Says a text at a place, once: what stands there already would be read aloud again. */
+export function put(id, text) {
+  if (byId(id).textContent !== text) byId(id).textContent = text;
+}
+
 /** An element with texts and other elements in it. */
 export function element(tag, properties = {}, ...contents) {
   const made = Object.assign(document.createElement(tag), properties);

@@ -1,5 +1,5 @@
 // The form for an appeal.
-import { byId, element, fillChoices } from "./elements.js";
+import { byId, element, fillChoices, put } from "./elements.js";
 import { TEXTS } from "./texts.js";
 import { dayText, fill, isOver } from "./wording.js";
 
@@ -98,11 +98,11 @@ export class LodgingForm {
     const session = byId("session").value;
     const { titles, clashes } = this.#own;
     const { hall, date } = this.#own.seat(session) ?? {};
-    byId("for-hall").textContent = hall ? fill(TEXTS.notThisHall, { hall: titles.hall(hall) }) : "";
+    put("for-hall", hall ? fill(TEXTS.notThisHall, { hall: titles.hall(hall) }) : "");
     const papers = clashes.filter((clash) => clash.session === session);
     fillChoices(byId("paper"), papers.map(({ paper }) => ({ value: paper, text: titles.paper(paper) })));
     const last = date && daysBefore(date, KINDS[chosenKind()].days);
-    byId("until").textContent = last ? fill(isOver(last) ? TEXTS.late : TEXTS.until, { day: dayText(last) }) : "";
+    put("until", last ? fill(isOver(last) ? TEXTS.late : TEXTS.until, { day: dayText(last) }) : "");
   }
 
   /** An arrangement appeal begins with what the candidate has in the session. */

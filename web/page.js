@@ -144,9 +144,9 @@ async function logIn() {
   showCode();
   byId("who-number").textContent = candidate.number;
   byId("login").hidden = true;
-  byId("main").hidden = false;
   show();
   lodging.clear(own);
+  byId("main").hidden = false;
   say(fill(TEXTS.loaded, { exams: own.seats.length, appeals: own.appeals.length }));
   return byId("who").focus();
 }
