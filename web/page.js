@@ -140,8 +140,7 @@ async function logIn() {
     throw fault;
   }
   candidate = entering;
-  byId("login").reset();
-  showCode();
+  emptyLogin();
   byId("who-number").textContent = candidate.number;
   byId("login").hidden = true;
   show();
@@ -240,8 +239,15 @@ function saveCalendar() {
   setTimeout(() => URL.revokeObjectURL(href), 60000);
 }
 
+/** Shows the code, or hides it from whoever looks over a shoulder. */
 function showCode() {
-  byId("code").classList.toggle("shown", byId("show-code").checked);
+  byId("code").type = byId("show-code").checked ? "text" : "password";
+}
+
+/** Forgets what was typed. */
+function emptyLogin() {
+  byId("login").reset();
+  showCode();
 }
 
 /** The page works without titles: then it shows codes. */
@@ -281,7 +287,7 @@ function start() {
   addEventListener("online", showConnection);
   addEventListener("offline", showConnection);
   addEventListener("pageshow", ({ persisted }) => persisted && logOut()); // what the browser kept of the page
-  addEventListener("pagehide", () => byId("login").reset()); // nor does it keep what was typed
+  addEventListener("pagehide", emptyLogin); // nor does it keep what was typed
   showConnection();
   byId("starting").remove();
   byId("login").hidden = false;
