@@ -28,7 +28,7 @@ export class Own {
       .filter(({ date, start }) => date === one.date && start < one.finish).map((other) => [one, other]));
   }
 
-  /** Day, time and code of a session; the code alone where the day is not known. */
+  /** Code, time and day of a session; the code alone where the day is not known. */
   sessionText(code) {
     const seat = this.seat(code);
     return seat ? sessionText(seat.date, seat.start, code) : this.titles.session(code);
