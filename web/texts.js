@@ -27,6 +27,8 @@ export const TEXTS = {
   loggedOutIdle: "You are logged out, since nobody used the page for 20 minutes.",
   otherCode: "Your access code was changed. Ask the exam office for the new one.",
   loaded: "Exams: {exams}. Appeals: {appeals}.",
+  changed: "Changed since you looked: {changes}.",
+  unchanged: "Nothing has changed since you looked.",
   asOf: "As of {time}.",
 
   seats: "Seats",
