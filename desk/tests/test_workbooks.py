@@ -161,6 +161,12 @@ class Limits(unittest.TestCase):
         self.refused("more than 1 sheets", rawbook.ods(tables), "ods", MOST_SHEETS=1)
         self.refused("asks for more than 1 GB", two, "xlsx", parse=mock.Mock(side_effect=MemoryError))
 
+    def test_no_cell_stands_beyond_a_sheet(self) -> None:
+        for place in ("XFE1", "A1048577", "A0"):
+            self.refused("it has a cell beyond the last row or column", self.with_sheet(harder.sheet_xml(f'<row><c r="{place}"><v>1</v></c></row>')))
+        book = child.read(self.with_sheet(harder.sheet_xml('<row><c r="XFD1048576"><v>1</v></c></row>')))
+        self.assertEqual([(1_048_576, [16_384])], [(row, [*found]) for row, found in unpacked(book).sheets[0].rows.items()])
+
     def test_what_is_no_workbook_is_refused(self) -> None:
         letter = odd.changed(rawbook.ods(""), "content.xml", "office:spreadsheet", "office:text")
         self.refused("it is a document of another kind", letter)
