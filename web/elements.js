@@ -3,6 +3,11 @@ import { TEXTS } from "./texts.js";
 
 export const byId = (id) => document.getElementById(id);
 
+/** Says a text at a place, once: what stands there already would be read aloud again. */
+export function put(id, text) {
+  if (byId(id).textContent !== text) byId(id).textContent = text;
+}
+
 /** An element with texts and other elements in it. */
 export function element(tag, properties = {}, ...contents) {
   const made = Object.assign(document.createElement(tag), properties);
@@ -17,10 +22,11 @@ export const data = (text) => element("bdi", {}, text);
  * A table that stays a table for a screen reader where the style sheet shows it as cards. It leaves out a column that
  * has nothing in any row.
  * @template Row
+ * @param {string} heading the id of the heading that names it
  * @param {[head: string, content: (row: Row) => string | number | Node | null, className?: string][]} columns
  * @param {Row[]} rows
  */
-export function table(columns, rows) {
+export function table(heading, columns, rows) {
   const contents = rows.map((row) => columns.map(([, content]) => content(row)));
   const shown = columns.map((_, place) => contents.some((cells) => cells[place] !== null));
   const kept = (cells) => cells.filter((_, place) => shown[place]);
@@ -29,7 +35,9 @@ export function table(columns, rows) {
   const body = element("tbody", { role: "rowgroup" });
   body.append(...contents.map((cells) => tableRow(kept(columns), kept(cells))));
   const head = element("tr", { role: "row" }, ...heads);
-  return element("table", { role: "table" }, element("thead", { role: "rowgroup" }, head), body);
+  const made = element("table", { role: "table" }, element("thead", { role: "rowgroup" }, head), body);
+  made.setAttribute("aria-labelledby", heading);
+  return made;
 }
 
 /** Where the row is a card the style sheet leaves out the cells with nothing in them. */

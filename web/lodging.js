@@ -1,5 +1,5 @@
 // The form for an appeal.
-import { byId, element, fillChoices } from "./elements.js";
+import { byId, element, fillChoices, put } from "./elements.js";
 import { TEXTS } from "./texts.js";
 import { dayText, fill, isOver } from "./wording.js";
 
@@ -33,13 +33,13 @@ export class LodgingForm {
     this.#takeArrangement();
   }
 
-  /** Offers the sessions of the kind that is chosen. */
+  /** Offers the sessions of the kind that is chosen; last, and marked, those that are past their last day. */
   show(own) {
     this.#own = own;
     const kind = chosenKind();
     for (const each of Object.keys(KINDS)) byId(`for-${each}`).hidden = each !== kind;
     const sessions = this.#sessions(kind);
-    fillChoices(byId("session"), sessions.map((code) => ({ value: code, text: own.sessionText(code) })));
+    fillChoices(byId("session"), sessions.map((value) => ({ value, text: this.#choiceText(value) })));
     byId("no-session").hidden = sessions.length > 0;
     byId("no-session").textContent = TEXTS[KINDS[kind].none];
     byId("asked").hidden = sessions.length === 0;
@@ -84,7 +84,22 @@ export class LodgingForm {
       clash: ({ session }) => this.#own.clashes.some((clash) => clash.session === session),
       arrangement: () => true,
     };
-    return this.#own.seats.filter(has[kind]).map(({ session }) => session);
+    const sessions = this.#own.seats.filter(has[kind]).map(({ session }) => session);
+    return sessions.sort((one, other) => this.#isLate(one) - this.#isLate(other));
+  }
+
+  /** The last day to lodge an appeal of the kind that is chosen. */
+  #lastDay(session) {
+    return daysBefore(this.#own.seat(session).date, KINDS[chosenKind()].days);
+  }
+
+  #isLate(session) {
+    return isOver(this.#lastDay(session));
+  }
+
+  #choiceText(code) {
+    const session = this.#own.sessionText(code);
+    return this.#isLate(code) ? fill(TEXTS.tooLate, { session }) : session;
   }
 
   #changed(target) {
@@ -97,12 +112,12 @@ export class LodgingForm {
   #showSession() {
     const session = byId("session").value;
     const { titles, clashes } = this.#own;
-    const { hall, date } = this.#own.seat(session) ?? {};
-    byId("for-hall").textContent = hall ? fill(TEXTS.notThisHall, { hall: titles.hall(hall) }) : "";
+    const { hall } = this.#own.seat(session) ?? {};
+    put("for-hall", hall ? fill(TEXTS.notThisHall, { hall: titles.hall(hall) }) : "");
     const papers = clashes.filter((clash) => clash.session === session);
     fillChoices(byId("paper"), papers.map(({ paper }) => ({ value: paper, text: titles.paper(paper) })));
-    const last = date && daysBefore(date, KINDS[chosenKind()].days);
-    byId("until").textContent = last ? fill(isOver(last) ? TEXTS.late : TEXTS.until, { day: dayText(last) }) : "";
+    const until = session && (this.#isLate(session) ? TEXTS.late : TEXTS.until);
+    put("until", fill(until, { day: session && dayText(this.#lastDay(session)) }));
   }
 
   /** An arrangement appeal begins with what the candidate has in the session. */

@@ -29,18 +29,24 @@ function say(text) {
   byId("status").textContent = text;
 }
 
-/** Says what is wrong, and leads to the field where it is. */
+/** Says what is wrong, and leads to the field where it is, whose first words are these until the next step. */
 function warn(text, field) {
   byId("alert").textContent = text;
-  field?.setAttribute("aria-invalid", "true");
+  if (field) mark(field, true);
   field?.focus();
   return null;
+}
+
+function mark(field, isWrong) {
+  const hints = (field.getAttribute("aria-describedby") ?? "").replace("alert ", "");
+  field.setAttribute("aria-describedby", isWrong ? `alert ${hints}` : hints);
+  field.setAttribute("aria-invalid", String(isWrong));
 }
 
 function clearNotices() {
   say("");
   byId("alert").textContent = "";
-  for (const field of document.querySelectorAll("[aria-invalid]")) field.removeAttribute("aria-invalid");
+  for (const field of document.querySelectorAll("[aria-invalid=true]")) mark(field, false);
 }
 
 /** Does one step at a time, and says what went wrong. What is pressed meanwhile waits, and the page says so. */
@@ -80,7 +86,7 @@ function setCurrent(work) {
   current = work;
   if (work) next = null;
   document.body.classList.toggle("busy", work !== null);
-  byId("main").setAttribute("aria-busy", String(work !== null));
+  byId("visit").setAttribute("aria-busy", String(work !== null));
 }
 
 function tell(fault) {
@@ -140,14 +146,13 @@ async function logIn() {
     throw fault;
   }
   candidate = entering;
-  byId("login").reset();
-  showCode();
+  emptyLogin();
   byId("who-number").textContent = candidate.number;
   byId("login").hidden = true;
-  byId("main").hidden = false;
   show();
   lodging.clear(own);
-  say(fill(TEXTS.loaded, { exams: own.seats.length, appeals: own.appeals.length }));
+  byId("visit").hidden = false;
+  say(counted());
   return byId("who").focus();
 }
 
@@ -157,10 +162,14 @@ function typed(id) {
 }
 
 async function lookAgain() {
+  const before = own;
   own = await look(candidate);
   show();
-  say(fill(TEXTS.loaded, { exams: own.seats.length, appeals: own.appeals.length }));
+  const changes = own.changesSince(before);
+  say(`${changes ? fill(TEXTS.changed, { changes }) : TEXTS.unchanged} ${counted()}`);
 }
+
+const counted = () => fill(TEXTS.loaded, { exams: own.seats.length, appeals: own.appeals.length });
 
 function logOut(said = current ? TEXTS.loggedOutBusy : TEXTS.loggedOut) {
   candidate?.leave();
@@ -172,7 +181,7 @@ function logOut(said = current ? TEXTS.loggedOutBusy : TEXTS.loggedOut) {
   byId("retract").close();
   byId("retract-ask").textContent = "";
   byId("who-number").textContent = "";
-  byId("main").hidden = true;
+  byId("visit").hidden = true;
   byId("login").hidden = false;
   say(said);
   byId("number").focus();
@@ -240,8 +249,15 @@ function saveCalendar() {
   setTimeout(() => URL.revokeObjectURL(href), 60000);
 }
 
+/** Shows the code, or hides it from whoever looks over a shoulder. */
 function showCode() {
-  byId("code").classList.toggle("shown", byId("show-code").checked);
+  byId("code").type = byId("show-code").checked ? "text" : "password";
+}
+
+/** Forgets what was typed. */
+function emptyLogin() {
+  byId("login").reset();
+  showCode();
 }
 
 /** The page works without titles: then it shows codes. */
@@ -281,7 +297,7 @@ function start() {
   addEventListener("online", showConnection);
   addEventListener("offline", showConnection);
   addEventListener("pageshow", ({ persisted }) => persisted && logOut()); // what the browser kept of the page
-  addEventListener("pagehide", () => byId("login").reset()); // nor does it keep what was typed
+  addEventListener("pagehide", emptyLogin); // nor does it keep what was typed
   showConnection();
   byId("starting").remove();
   byId("login").hidden = false;

@@ -27,6 +27,8 @@ export const TEXTS = {
   loggedOutIdle: "You are logged out, since nobody used the page for 20 minutes.",
   otherCode: "Your access code was changed. Ask the exam office for the new one.",
   loaded: "Exams: {exams}. Appeals: {appeals}.",
+  changed: "Changed since you looked: {changes}.",
+  unchanged: "Nothing has changed since you looked.",
   asOf: "As of {time}.",
 
   seats: "Seats",
@@ -45,6 +47,7 @@ export const TEXTS = {
   noHall: "no desk: please ask the exam office",
   extraTime: "{extra} % extra time",
   titled: "{title} ({code})",
+  sessionAt: "{code}, {time}, {day}",
 
   clashes: "Two papers at the same time",
   noClashes: "None.",
@@ -95,6 +98,7 @@ export const TEXTS = {
   left: "Room for {count} more letters; an accented letter may count as two.",
   tooLong: "The reason is too long, by up to {count} letters.",
   until: "The last day to lodge this is {day}.",
+  tooLate: "too late: {session}",
   late: "The last day to lodge this was {day}: please speak to the exam office.",
   send: "Send the appeal",
   lodgeDone: "Your appeal is lodged.",

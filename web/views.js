@@ -22,13 +22,22 @@ export class Own {
     return this.seats.find((seat) => seat.session === session);
   }
 
+  /** What is another than it was, in words: seats, with their sessions, clashes, appeals. */
+  changesSince(before) {
+    const differ = (one, other) => JSON.stringify(one) !== JSON.stringify(other);
+    const all = new Set([...before.seats, ...this.seats].map(({ session }) => session));
+    const code = [...all].filter((session) => differ(this.seat(session), before.seat(session))).join(", ");
+    const lists = ["clashes", "appeals"].filter((list) => differ(this[list], before[list])).map((list) => TEXTS[list]);
+    return [...(code ? [fill(TEXTS.titled, { title: TEXTS.seats, code })] : []), ...lists].join("; ");
+  }
+
   /** The pairs of exams in two sessions that are at the same time. */
   overlaps() {
     return this.seats.flatMap((one, place) => this.seats.slice(place + 1)
       .filter(({ date, start }) => date === one.date && start < one.finish).map((other) => [one, other]));
   }
 
-  /** Day, time and code of a session; the code alone where the day is not known. */
+  /** Code, time and day of a session; the code alone where the day is not known. */
   sessionText(code) {
     const seat = this.seat(code);
     return seat ? sessionText(seat.date, seat.start, code) : this.titles.session(code);
@@ -52,7 +61,7 @@ const none = (text) => element("p", {}, text);
 
 export function seatTable({ seats, titles }) {
   if (seats.length === 0) return none(TEXTS.noSeats);
-  return table([
+  return table("seats-head", [
     [TEXTS.day, ({ date }) => (isOver(date) ? fill(TEXTS.over, { day: dayText(date) }) : dayText(date))],
     [TEXTS.time, ({ start, finish }) => fill(TEXTS.times, { start, finish: timeText(finish) })],
     [TEXTS.paper, ({ paper }) => data(titles.paper(paper))],
@@ -68,7 +77,7 @@ export function clashTable(own) {
   const said = ([one, other]) => fill(TEXTS.overlap, { one: own.titles.paper(one.paper), other: own.titles.paper(other.paper) });
   const overlaps = own.overlaps().map((pair) => element("p", { className: "lacking" }, said(pair)));
   if (own.clashes.length === 0) return overlaps.length ? element("div", {}, ...overlaps) : none(TEXTS.noClashes);
-  return element("div", {}, ...overlaps, table([
+  return element("div", {}, ...overlaps, table("clashes-head", [
     [TEXTS.session, ({ session }) => own.sessionText(session)],
     [TEXTS.sitting, ({ sitting }) => data(own.titles.paper(sitting))],
     [TEXTS.missing, ({ paper }) => data(own.titles.paper(paper))],
@@ -78,7 +87,7 @@ export function clashTable(own) {
 /** @param {(appeal: object) => void} retract is called where the candidate presses the button of an open appeal */
 export function appealTable(own, retract) {
   if (own.appeals.length === 0) return none(TEXTS.noAppeals);
-  return table([
+  return table("appeals-head", [
     [TEXTS.about, (appeal) => data(own.aboutText(appeal))],
     [TEXTS.session, ({ session }) => own.sessionText(session)],
     [TEXTS.lodged, ({ lodged }) => dayText(lodged)],

@@ -29,9 +29,9 @@ export function timeText(time) {
   return fill(TEXTS.nextDay, { time: `${String(hours - 24).padStart(2, "0")}:${minutes}` });
 }
 
-/** The day and time of a session, with its code. */
+/** The code, time and day of a session, in this order: the end is cut where a list has no room. */
 export function sessionText(date, start, code) {
-  return fill(TEXTS.titled, { title: `${dayText(date)}, ${timeText(start)}`, code });
+  return fill(TEXTS.sessionAt, { code, time: timeText(start), day: dayText(date) });
 }
 
 /** `screen+reader` and 25 in words; no word where there is neither. */
@@ -64,7 +64,7 @@ export class Titles {
     return this.#of.sessions.get(code)?.date;
   }
 
-  /** The day and time of a session with its code, or the code alone. */
+  /** The code, time and day of a session, or the code alone. */
   session(code) {
     const { date, start } = this.#of.sessions.get(code) ?? {};
     return date && start ? sessionText(date, start, code) : code;

@@ -1,7 +1,6 @@
 """Commands over what the school keeps beside its office, on which no seat depends."""
 from __future__ import annotations
 
-import sys
 from typing import TYPE_CHECKING
 
 import command
@@ -9,11 +8,10 @@ from exam_desk.office import Trouble
 from exam_desk.words import few
 
 if TYPE_CHECKING:
-    from collections.abc import Collection, Iterator, Mapping
-    from exam_desk.on_paper import Line, Move, Papers
+    from collections.abc import Collection, Iterator
+    from exam_desk.on_paper import Line, Move
     from exam_desk.reading import Reading
 
-MOST_BYTES = 1 << 16  # of numbers on standard input
 MOST_SLIPS = 5  # whose numbers a line names
 
 
@@ -72,10 +70,10 @@ def numbers(words: list[str]) -> list[str]:
     from exam_desk import files
     if words != ["-"]:
         return words
-    text = sys.stdin.buffer.read(MOST_BYTES + 1)
-    if len(text) > MOST_BYTES:
-        raise Trouble(f"more than {MOST_BYTES} bytes of numbers")
-    return text.removeprefix(files.BOM).decode("utf-8", "replace").replace(",", " ").split()
+    text = files.read("-", command.warn)
+    if len(text) > files.MOST_BYTES:
+        raise Trouble(f"more than {files.MOST_BYTES} bytes of numbers")
+    return text.decode("utf-8-sig", "replace").replace(",", " ").split()
 
 
 @command.named("""Keeps notes on candidates, such as rest breaks, a scribe, a dictionary: notes [FILE]
@@ -90,7 +88,7 @@ user alone, and in its copies; `office back` leaves them as they are. A line say
 note. The log has whose note is another, and no text of it.
 """)
 def notes(parser: command.Parser) -> None:
-    from exam_desk import facts, files, notebook, on_paper
+    from exam_desk import effects, facts, files, notebook
     from exam_desk.sheets import texts
     given = command.given(parser, "file?")
     office = command.office()
@@ -99,17 +97,11 @@ def notes(parser: command.Parser) -> None:
             command.say_private(texts.notes(office, rows))
             return
         known = set(facts.candidate_names(rows))
-    texts_given = files.texts_by_number(files.read(given.file), given.file, "text", notebook.MOST_NOTE_BYTES, known)
+    text = files.read(given.file, command.warn)
+    texts_given = files.texts_by_number(text, given.file, "text", notebook.MOST_NOTE_BYTES, known)
     noted = notebook.take_notes(office, texts_given)
     command.say(" ".join(f"{word} {noted[word]}" for word in ("added", "changed", "removed", "same")) + "\n")
-    tell_papers(on_paper.otherwise(office, texts_given, {}))
-
-
-def tell_papers(papers: Mapping[str, Papers]) -> None:
-    """Says on standard error which printed papers are out of date, by session."""
-    from exam_desk import effects
-    for line in effects.noted(papers):
-        print(line, file=sys.stderr)
+    command.complain(effects.noted(office, texts_given, {}))
 
 
 @command.named("""Notes what is on paper, and says what is otherwise now: printed [SESSION [--look]]
@@ -155,9 +147,8 @@ def compared(reading: Reading, session: str) -> list[str]:
     again = on_paper.in_words(found.again)
     if 0 < len(found.slips) <= MOST_SLIPS:
         again += f" (`office slips {session} --desks --only {' --only '.join(found.slips)}`)"
-    empty = on_paper.in_words(dict.fromkeys(on_paper.BY_HALL, found.empty)) if found.empty else ""
-    return [*shared, *map(otherwise, found.moves), f"to print again: {again}",
-            *([f"to take away, as nobody sits there now: {empty}"] if empty else [])]
+    empty = [f"to take away, as nobody sits there now: {on_paper.in_words(found.empty)}"] if found.empty else []
+    return [*shared, *map(otherwise, found.moves), f"to print again: {again}", *empty]
 
 
 def otherwise(move: Move) -> str:
@@ -181,7 +172,7 @@ RUNNING is across, across-and-back, down or down-and-up, seen from the front of 
 says which printed papers show it otherwise.
 """)
 def rows(parser: command.Parser) -> None:
-    from exam_desk import facts, notebook, on_paper
+    from exam_desk import effects, facts, notebook, on_paper
     parser.add_argument("hall", metavar="HALL", nargs="?")
     parser.add_argument("across", metavar="DESKS-IN-A-ROW", nargs="?", type=int)
     parser.add_argument("running", metavar="RUNNING", nargs="?", choices=notebook.RUNNING, default=notebook.RUNNING[0])
@@ -193,7 +184,7 @@ def rows(parser: command.Parser) -> None:
         if given.hall not in titles:
             raise Trouble(f"the office has no hall {given.hall}; it has {few(sorted(titles), 20)}")
         notebook.keep_rows(office, given.hall, asked := notebook.Rows(given.across or 0, given.running))
-        tell_papers(on_paper.otherwise(office, {}, {on_paper.OF_ROWS.format(given.hall): str(asked)}))
+        command.complain(effects.noted(office, {}, {on_paper.OF_ROWS.format(given.hall): str(asked)}))
     kept = sorted(notebook.rows_of_halls(office).items())
     command.say_lines([f"{hall}: rows of {rows.across}, {rows.running}" for hall, rows in kept] or ["nothing is kept"])
 
@@ -205,7 +196,7 @@ def rows(parser: command.Parser) -> None:
 Without words it prints both. '' takes one away. A line says which printed papers have another name.
 """)
 def school(parser: command.Parser) -> None:
-    from exam_desk import notebook, on_paper
+    from exam_desk import effects, notebook, on_paper
     parser.add_argument("--page", metavar="ADDRESS", help="of the candidates' page; it stands on slips")
     given = command.given(parser, "name?")
     office = command.office()
@@ -213,6 +204,6 @@ def school(parser: command.Parser) -> None:
         notebook.set_school_name(office, given.page, notebook.PAGE)
     if given.name is not None:
         notebook.set_school_name(office, given.name)
-        tell_papers(on_paper.otherwise(office, {}, {on_paper.OF_SCHOOL: given.name}))
+        command.complain(effects.noted(office, {}, {on_paper.OF_SCHOOL: given.name}))
     address = notebook.school_name(office, notebook.PAGE)
     command.say_lines([notebook.school_name(office) or "no name", *filter(None, [address])])

@@ -132,6 +132,7 @@ def second_sitting(parser: command.Parser) -> command.Plan:
     office what-if withdraw --list leave.csv
     office what-if take school.xlsx
     office what-if back 1         what `office back 1` would do, and which appeals and decisions it would take away
+    office what-if lodge ..       whether the appeal can be lodged, and what a grant of it would come to
 
 It takes each command that changes the office, carries it out on a private copy, asks nothing, and prints what came of
 it; then who would lose a desk, move, get one, join or leave, at most 20 of each. The status is that of the command.
@@ -142,8 +143,11 @@ def what_if(parser: command.Parser) -> int:
     own = {name: each for name, each in command.COMMANDS.items() if each.changes}
     name = "".join(words[:1])
     plan = own[name].run(command.parser_of(name, words[1:])) if name in own else programs.of_program([name, *words[1:]])
+    if name in command.COMMANDS and command.COMMANDS[name].run.__module__ == "commands.beside":
+        raise Trouble(f"`office {name} ..` changes no seat, so there is nothing to rehearse; `office {name}` alone "
+                      "shows what is kept, and `office printed` which papers are out of date by it")
     if not isinstance(plan, programs.Change):
-        raise Trouble(f"`{f'office {name}'.strip()}` does not change the office; name a command that does: "
-                      f"{', '.join(sorted([*own, *programs.CHANGES]))}")
+        why = f"`office {name}` does not change the office; " if name else ""
+        raise Trouble(f"{why}name a command that does: {', '.join(sorted([*own, *programs.CHANGES]))}")
     with programs.rehearsed(plan) as (status, _):
         return status

@@ -140,7 +140,7 @@ def codes(parser: command.Parser) -> command.Plan:
     if given.at_once:
         step = Step(("import", "candidates", "rows with new codes"), files.file_of("candidates", found.rows))
         return programs.Change([step], " ".join(["codes", *(["--new", *given.new] if given.new else [])]))
-    output = given.output or f"{os.path.splitext(path)[0]}-with-codes.csv"
+    output = given.output or f"{os.path.splitext('candidates' if path in files.INPUTS else path)[0]}-with-codes.csv"
 
     def write() -> None:
         files.put(output, files.file_of("candidates", found.rows))

@@ -10,7 +10,6 @@ import command
 from exam_desk import typed
 from exam_desk.office import Office, Trouble
 
-MOST_BYTES = 1 << 20  # no printed shortage is as long
 PAGES = {  # the words that each takes, as in `command.given`, and what `--help` prints
     "board": ("session", """Prints a notice board of a session, by name: board SESSION >board.html
 
@@ -66,18 +65,12 @@ Free desks beside candidates who are short are in halls that do not suit them: `
 
 
 def print_page(name: str, words: str, parser: command.Parser) -> None:
-    """Prints the page that the function of this name makes; without the charts of halls that it cannot draw."""
+    """Prints the page that the function of this name makes."""
     from exam_desk.sheets import papers, texts
     make = texts.summary if name == "summary" else getattr(papers, name)
     session, *halls = vars(command.given(parser, *words.split())).values()
     with command.reading() as reading:
-        try:
-            text = make(reading, session, *halls)
-        except papers.NotDrawn as trouble:
-            if not trouble.others:
-                raise
-            command.warn(trouble)
-            text = make(reading, session, trouble.others)
+        text = make(reading, session, *halls)
         (command.say_private if name == "doors" else command.say)(text)
 
 
@@ -146,7 +139,8 @@ def slips(parser: command.Parser) -> None:
     parser.add_argument("--order", metavar="FILE.csv", help="number,group: by group, each on pages of its own")
     given = command.given(parser, "session*", "--codes: with the access code", "--desks: with desk numbers",
                           "--csv: for a spreadsheet or the merge of letters")
-    groups = files.texts_by_number(files.read(given.order), given.order, *slips.GROUP) if given.order else {}
+    groups = {} if given.order is None else files.texts_by_number(
+        files.read(given.order, command.warn), given.order, *slips.GROUP)
     choice = slips.Choice(given.session, given.only, given.codes, given.desks, groups)
     make = slips.csv_text if given.csv else slips.page
     if choice.only:
@@ -229,10 +223,9 @@ proves that desks are short: its candidates can sit only in its halls, which hav
 plan leaves as many without one as the sheet counts. `examples/check-office` trusts nothing that the program says.
 """)
 def check_shortage(parser: command.Parser) -> bool:
-    from exam_desk import lists, reasons
-    path = command.given(parser, "sheet").sheet
-    with open(0 if path == "-" else path, "rb", closefd=path != "-") as file:
-        sheet = reasons.read_sheet(file.read(MOST_BYTES).decode("utf-8", "replace"))
+    from exam_desk import files, lists, reasons
+    printed = files.read(command.given(parser, "sheet").sheet, command.warn)
+    sheet = reasons.read_sheet(printed.decode("utf-8", "replace"))
     with command.reading() as reading:
         found = list(reasons.Reasons(reading, sheet.session).faults(sheet))
     right = (f"right: {lists.count(sheet.candidate_count, 'candidate')} = {lists.count(sheet.desks, 'desk')}"
@@ -301,8 +294,8 @@ that open a hall, or have it open for longer or with more desks.
 def why(parser: command.Parser) -> bool:
     from exam_desk import reasons, remedies
     given = command.given(parser, "session", "number?")
-    number = typed.candidate_number(given.number) if given.number else None
     with command.reading() as reading:
+        number = reading.person(typed.candidate_number(given.number)).number if given.number else None
         found, printed = reasons.compared(reading, given.session)
         faults = list(found.faults(printed))
         helpful = [] if number else remedies.lines(reading.rows, found, printed)

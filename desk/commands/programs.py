@@ -202,10 +202,18 @@ class Lodging(Change):
     words: Sequence[str] = ()
 
     def said(self, rehearsal: Rehearsal) -> int:
-        return self(replace(rehearsal.office, path=rehearsal.after))
+        """A lodging moves nobody: it shows what a grant behind it would come to, which no other rehearsal can."""
+        lodged = lodging.lodge(replace(rehearsal.office, path=rehearsal.after), self.words)
+        status = said(*lodged)
+        if not status:
+            command.say("lodging moves nobody; if you granted it afterwards:\n")
+            grant = Step(("decide", *lodged.first_line().split()[:2], "granted", ""))
+            rehearsal.answers.append(Answered(grant, running.run_over(rehearsal.office, rehearsal.after, *grant.words)))
+            said(*rehearsal.answers[-1])
+        return status
 
-    def __call__(self, office: Office | None = None) -> int:
-        return said(*lodging.lodge(office or command.office(), self.words))
+    def __call__(self) -> int:
+        return said(*lodging.lodge(command.office(), self.words))
 
 
 @contextlib.contextmanager
@@ -293,13 +301,10 @@ def of_program(words: list[str]) -> Change | None:
 
 
 def rows_given(words: Sequence[str]) -> bytes | None:
-    """The bytes of the file of an import, or of standard input, before the office is taken; None where they cannot be
-    read, as the program says. Raises `Trouble` for what is no file, such as a pipe to which nobody writes."""
+    """The bytes of an import's file, before the office is taken; None where it cannot be read, as the program says."""
     _, path = refusals.imported(words) or ("", "")
     with contextlib.suppress(OSError):
-        if not (os.path.isfile(path) or os.path.samefile(path, running.INPUT)):
-            raise Trouble(f"{beside.NO_FILE}; {running.INPUT} takes rows from a pipe; nothing is changed", path)
-        return files.read(path)
+        return files.read(path, command.warn)
     return None
 
 
@@ -310,8 +315,7 @@ def of_list(name: str, path: str) -> List:
         command.complain(wrong)
         raise Trouble("nothing is changed")
     about = changing.named("entries", (tuple(map(str.encode, step.words[1:])) for step in rows.values()))
-    title = " ".join([name, "--list", os.path.basename(path), *about])
-    return List([*rows.values()], title, rows=rows)
+    return List([*rows.values()], " ".join([name, "--list", os.path.basename(path), *about]), rows=rows)
 
 
 def way_back(copy: str | None) -> str:

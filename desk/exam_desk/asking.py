@@ -22,9 +22,7 @@ from exam_desk import running
 from exam_desk.office import Office, Trouble
 
 HOST = "127.0.0.1"
-SHOWN_HOST = f"{int.from_bytes(socket.inet_aton(HOST), sys.byteorder):08X}"  # as /proc/net/tcp shows it
 HEAD_END = b"\r\n\r\n"
-LISTENS = b"0A"  # the state of a socket there
 PEER = "3i"  # struct ucred of unix(7): process, user, group
 AT_ONCE = 4  # connections: while `serve` answers the first, the next are made
 SECONDS = 60  # that an answer may take
@@ -190,11 +188,11 @@ def listener(port: int) -> str:
 
     The kernel lists the sockets that listen first; there may be thousands of others behind them.
     """
-    wanted = f"{SHOWN_HOST}:{port:04X}".encode()
+    wanted = f"{int.from_bytes(socket.inet_aton(HOST), sys.byteorder):08X}:{port:04X}".encode()
     with open("/proc/net/tcp", "rb") as lines:
         next(lines)
         for _, local, _, state, *_, inode in (line.split()[:10] for line in lines):
-            if state != LISTENS:
+            if state != b"0A":  # it does not listen
                 break
             if local == wanted:
                 return inode.decode()

@@ -41,11 +41,7 @@ def office_knows(office: Office) -> mistakes.Known:
 def texts_in(folder: str) -> dict[str, bytes]:
     """The import files of a folder by kind, in order, as far as an import reads them. `Trouble` at what is no file."""
     names = os.listdir(folder)
-    paths = {kind: os.path.join(folder, f"{kind}.csv") for kind in files.HEADERS if f"{kind}.csv" in names}
-    for path in paths.values():
-        if not os.path.isfile(path):
-            raise Trouble(f"{path} is no file")
-    return {kind: files.read(path) for kind, path in paths.items()}
+    return {kind: files.read(os.path.join(folder, name)) for kind in files.HEADERS if (name := f"{kind}.csv") in names}
 
 
 def check_folder(office: Office, folder: str, tell: Tell, progress: Progress) -> tuple[list[str], Counter[str]]:

@@ -13,7 +13,6 @@ from exam_desk.office import Office, NoCandidate, Trouble
 if TYPE_CHECKING:
     from exam_desk.workbook.reading import Reading
 
-SOME_CODE = b"AAAAAAAA"  # of the right form
 LETTERS, DIGITS, LENGTH = "BCDFGHJKMNPQRSTVWXYZ", "23456789", 10
 
 
@@ -36,7 +35,7 @@ def read(text: bytes, path: str) -> list[list[str]]:
     """The rows of a file after the header. Raises `Trouble` where an import would not take them, empty codes apart."""
     found, forms = [], files.FORMS["candidates"]
     for row in files.below_header(text, path, files.HEADERS["candidates"]):
-        coded = [*row.fields[:2], *(code or SOME_CODE for code in row.fields[2:])]
+        coded = [*row.fields[:2], *(code or b"AAAAAAAA" for code in row.fields[2:])]
         if not row.closed or len(coded) != len(forms) or not all(right(value) for right, value in zip(forms, coded)):
             raise Trouble(f"line {row.line} is wrong; `office check-files` says how", path)
         found.append([value.decode() for value in row.fields])
@@ -74,7 +73,7 @@ def coded(office: Office, path: str | None, new: list[str]) -> Coded:
     as `read`, and where one of the new numbers is not there."""
     known = in_office(office)
     rows = [known[number] for number in dict.fromkeys(new) if number in known] if path is None \
-        else read(files.read(path), path)
+        else read(files.read(path, office.warn), path)
     for number in set(new) - {row[0] for row in rows}:
         raise Trouble(f"{number} is not in {path or 'the office'}; a number has seven digits")
     return filled(rows, known, set(new))

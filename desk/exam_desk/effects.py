@@ -101,7 +101,7 @@ def out_of_date(before: Reading, after: Reading, session: str, people: Collectio
              for number in on_paper.moved(then, now) if paper.lines.get(number) != now.get(number)]
     was, shared = (on_paper.shared(reading, session) for reading in (before, after))
     others = (what for what, *_ in on_paper.others(paper.shared, shared) if was.get(what) != shared[what])
-    return on_paper.out_of_date(moves, others, paper.lines)
+    return on_paper.out_of_date(after.office, moves, others, paper.lines)
 
 
 def new_clashes(before: Reading, after: Reading, sessions: Touched) -> Iterator[tuple[str, Person, list[str]]]:
@@ -219,9 +219,9 @@ def on_old_paper(papers: Mapping[str, on_paper.Papers]) -> list[Met]:
             for code, found in papers.items()]
 
 
-def noted(papers: Mapping[str, on_paper.Papers]) -> list[str]:
-    """As `done`, of the printed papers that something beside the office makes out of date."""
-    met = grouped({}, {PRINTED: on_old_paper(papers)})
+def noted(office: Office, notes: Mapping[str, str], common: Mapping[str, str]) -> list[str]:
+    """As `done`, of the printed papers that `on_paper.otherwise` gives."""
+    met = grouped({}, {PRINTED: on_old_paper(on_paper.otherwise(office, notes, common))})
     return brief(met) + listing(met, 1)
 
 

@@ -10,6 +10,7 @@ import itertools
 import operator
 import os
 import re
+import select
 from collections.abc import Callable, Collection, Iterable, Iterator
 from typing import TYPE_CHECKING, NamedTuple
 
@@ -35,6 +36,10 @@ REFERENCES = {kind: {name: BRINGS[name] for name in header if BRINGS.get(name, k
 KEYS = {"openings": 2, "entries": 2}  # how many columns make the key; elsewhere the first alone
 FIRST_DAY, LAST_DAY = datetime.date(2000, 1, 11), datetime.date(2199, 12, 31)
 BOM = b"\xef\xbb\xbf"
+INPUT = "/dev/stdin"
+INPUTS = "-", INPUT  # what stands for standard input in the place of a file
+PATIENCE = 2  # seconds after which it is said that nothing has come in
+NO_UTF_8 = "the letters are no UTF-8: save the file as CSV UTF-8"
 QUERIES = {  # the rows of an office, where masks and clocks are numbers
     "sessions": "SELECT code, day, start AS clock FROM session ORDER BY day, start, code",
     "papers": "SELECT code, title, session, minutes, requires AS mask FROM paper ORDER BY session, code",
@@ -55,9 +60,15 @@ class Record(NamedTuple):
     closed: bool  # no quote is left open
 
 
-def read(path: str) -> bytes:
-    """The bytes of a file, at most one more than an import takes."""
-    with open(path, "rb") as file:
+def read(path: str, tell: Callable[[str], None] = lambda text: None) -> bytes:
+    """The bytes of a file that somebody named, or of standard input, at most one more than an import takes. It tells
+    where it waits for what comes in. Raises `Trouble` at what is no file, such as a pipe to which nobody may write."""
+    is_input = path in INPUTS
+    if not is_input and os.path.exists(path) and not os.path.isfile(path):
+        raise Trouble(f"{beside.NO_FILE}; `-` in its place reads what comes in; nothing is changed", path)
+    with beside.naming(path), open(0 if is_input else path, "rb", closefd=not is_input) as file:
+        if is_input and not select.select([file], [], [], PATIENCE)[0]:
+            tell("waiting for what comes in; Ctrl-D ends it, and Ctrl-C breaks off")
         return file.read(MOST_BYTES + 1)
 
 
@@ -97,9 +108,11 @@ def records(text: bytes, comma: bytes = b",") -> Iterator[Record]:
 
 
 def below_header(text: bytes, path: str, header: Iterable[str], comma: bytes = b",") -> Iterator[Record]:
-    """The records after the header. Raises `Trouble` where the file is too long, or has another header."""
+    """The records after the header. Raises `Trouble` where the file is too long, is no UTF-8, or has another header."""
     if len(text) > MOST_BYTES:
         raise Trouble(f"is longer than {MOST_BYTES} bytes; split it", path)
+    if line := next((row.line for row in records(text, comma) if not all(map(is_utf_8, row.fields))), 0):
+        raise Trouble(f"line {line}: {NO_UTF_8}; nothing is done", path)
     rows = records(text, comma)
     first = next(rows, None)
     if first is None or first.fields != tuple(map(str.encode, header)):
@@ -114,7 +127,7 @@ def texts_by_number(content: bytes, path: str, column: str, most: int,
     number is not a known one."""
     found: dict[str, str] = {}
     for row in below_header(content, path, ["number", column], b";" if b";" in content.partition(b"\n")[0] else b","):
-        wrong, fields = "", [field.decode("utf-8", "replace") for field in row.fields]
+        wrong, fields = "", [*map(bytes.decode, row.fields)]
         fields[0] = fields[0].zfill(7) if row.fields[0].isdigit() else fields[0]
         if not row.closed or len(fields) != 2:
             wrong = f"a row has a number and a {column}; put quotes around a {column} with a comma"

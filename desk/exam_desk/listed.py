@@ -25,7 +25,7 @@ def rows_of(office: Office, command: str, path: str) -> tuple[Rows, list[str]]:
     """The rows of a file with the header of entries, and a line for each mistake in it, such as an unknown number. That
     zeros in front of a number are missing is said. Raises `Trouble` where there is no such file, or no row in it."""
     try:
-        text = files.read(path)
+        text = files.read(path, office.warn)
     except OSError as fault:
         raise Trouble(f"{fault.strerror}; nothing is changed", path) from fault
     file = mistakes.File("entries", checking.office_knows(office))
@@ -47,10 +47,9 @@ def of_candidate(office: Office, number: str) -> Rows:
     Raises `Trouble` where there is no such candidate, or nothing to withdraw."""
     number = candidate_number(number)
     with snapshot.rows(office) as rows:
-        is_known = number in facts.candidate_names(rows)
+        if number not in facts.candidate_names(rows):
+            raise NoCandidate(number)
         entries = rows.execute(COUNTING, [int(number)]).fetchall()
-    if not is_known:
-        raise NoCandidate(number)
     over = [paper for paper, day in entries if office.is_over(day)]
     papers = [paper for paper, day in entries if not office.is_over(day)]
     stay = f"entries in sessions that are over stay: {len(over)} ({few(over)})" * bool(over)

@@ -34,8 +34,9 @@ def has_words(name: str, words: list[str]) -> bool:
 
 
 def parted(name: str) -> tuple[str, str]:
-    """The surname, and the other names. The surname is what stands before the first comma; without one, or with nothing
-    before it, the last word."""
+    """The surname by which a list has somebody, and the other names. It is what stands before the first comma, as the
+    school writes it; without one, or with nothing before it, the last word. So `van Beethoven, Ludwig` stands under V,
+    and `Ludwig van Beethoven` under B, as in German and Dutch lists."""
     surname, *others = (part.strip() for part in COMMA.split(" ".join(name.split()), maxsplit=1))
     if not surname or not others:
         *others, surname = COMMA.sub(" ", name).split() or [""]

@@ -174,7 +174,7 @@ def needed(column: str, field: bytes) -> str:
     if column not in NAMES:
         return CURES[column]
     if not files.is_utf_8(field):
-        return "the letters are no UTF-8: save the file as CSV UTF-8"
+        return files.NO_UTF_8
     if files.CONTROL.search(field):
         return "it holds a line end or another control character"
     return f"1 to 80 bytes; it has {len(field)}"

@@ -30,7 +30,6 @@ RUNNING = ["across", "across-and-back", "down", "down-and-up"]  # how the number
 MOST_NOTE_BYTES = 200
 MOST_ACROSS = 100  # desks in a row
 MOST_NAMED, MOST_LOGGED = 5, 20  # numbers in a refusal, and of one kind in a line of the log
-ATTENDANCE = ["session", "date", "number", "paper", "attendance"]
 STAFF = re.compile(r"[\s,;(]*\b(staff|intern)\s*[:：].*", re.I | re.S)  # of a note: its part for staff alone
 Held = TypeVar("Held", bound=Collection[object])
 
@@ -177,7 +176,7 @@ def attendance(reading: Reading, sessions: Iterable[str]) -> str:
     the one which the exam board knows. Who has no desk cannot have been present. Raises `Trouble` before the day of a
     session."""
     from exam_desk.second_sitting import own_code  # here, since it makes changes, whose copies have this notebook
-    rows = [ATTENDANCE]
+    rows = [["session", "date", "number", "paper", "attendance"]]
     for session in sessions:
         day, missing = day_of(reading, session), absent(reading.office, session) or set()
         found = [(sits.paper, number, "absent" if number in missing else "present" if sits.hall else "no desk")
@@ -198,14 +197,12 @@ def is_rows(part: object) -> bool:
     return isinstance(part, list) and [*map(type, part)] == [int, str] and can_stand(Rows(*part))
 
 
-@contextlib.contextmanager
-def alone(office: Office) -> Iterator[int]:
+def alone(office: Office) -> contextlib.AbstractContextManager[int]:
     """The open folder for this process alone: what is read in it and written is not another's in between."""
     if not os.path.isfile(office.path):
         raise NoOffice(office.path)
     beside.make_folder(office.path, PLACE)
-    with locked(office, fcntl.LOCK_EX) as folder:
-        yield folder
+    return locked(office, fcntl.LOCK_EX)
 
 
 @contextlib.contextmanager

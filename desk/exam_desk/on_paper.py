@@ -72,8 +72,8 @@ class Compared(NamedTuple):
     moves: list[Move]  # by number
     others: list[tuple[str, str, str]]  # what lines share and is another: what, its value on paper, and now
     again: Papers  # to print again
+    empty: Papers  # to take away: of halls where nobody sits now
     halls: list[str]  # whose papers are out of date, by code
-    empty: list[str]  # of these, where nobody sits now
     slips: list[str]  # the numbers of those whose slips alone are out of date; none where all are, or no slip is
 
     def holds(self) -> bool:
@@ -117,15 +117,18 @@ def shared(reading: Reading, session: str) -> dict[str, str]:
     return {**found, OF_SCHOOL: notebook.school_name(reading.office)}
 
 
-def out_of_date(moves: Iterable[Move], others: Iterable[str], lines: Mapping[str, Line]) -> Papers:
-    """The papers that show of somebody, or of what lines share, what is another, each with its halls."""
+def out_of_date(office: Office, moves: Iterable[Move], others: Iterable[str], lines: Mapping[str, Line]) -> Papers:
+    """The papers that show of somebody, or of what lines share, what is another, each with its halls. A hall has a
+    chart once somebody has said how its desks stand."""
+    drawn = notebook.rows_of_halls(office)
     met = {(paper, line.desk.hall) for move in moves for kind in move.kinds() for paper in ON[kind].split()
            for line in (move.printed, move.now) if line}
     for what in others:
         code, _, part = what.partition(OF)
         met |= {(paper, line.desk.hall) for paper in ON.get(what, ON.get(part, "")).split() for line in lines.values()
                 if code in (SCHOOL, line.desk.hall, line.shown[1])}
-    found = {paper: sorted(hall for each, hall in met if each == paper) for paper in ALL.split()}
+    found = {paper: sorted(hall for each, hall in met if each == paper and (paper != "chart" or hall in drawn))
+             for paper in ALL.split()}
     return {paper: [*filter(None, halls)] if paper in BY_HALL else [] for paper, halls in found.items()
             if (any(halls) if paper in BY_HALL else halls)}
 
@@ -152,7 +155,7 @@ def otherwise(office: Office, notes: Mapping[str, str], common: Mapping[str, str
         paper = noted(office, code)
         moves = (Move(number, "", line, line._replace(shown=[*line.shown[:-1], sum_of(notes[number])]))
                  for number, line in paper.lines.items() if number in notes)
-        found[code] = out_of_date(moves, (what for what, *_ in others(paper.shared, common)), paper.lines)
+        found[code] = out_of_date(office, moves, (what for what, *_ in others(paper.shared, common)), paper.lines)
     return {code: papers for code, papers in found.items() if papers}
 
 
@@ -186,12 +189,13 @@ def compared(reading: Reading, session: str) -> Compared | None:
              for number in moved(before.lines, now)]
     common = others(before.shared, shared(reading, session))
     shares = [what for what, *_ in common]
-    papers, used = out_of_date(moves, shares, now), {line.desk.hall for line in now.values()}
-    again = {paper: [hall for hall in halls if hall in used] for paper, halls in papers.items()}
-    again = {paper: halls for paper, halls in again.items() if halls or paper not in BY_HALL}
-    halls, is_all = sorted({*sum(papers.values(), [])}), "slips" in out_of_date([], shares, now)
+    papers, used = out_of_date(reading.office, moves, shares, now), {line.desk.hall for line in now.values()}
+    again = {paper: found for paper, halls in papers.items()
+             if (found := [hall for hall in halls if hall in used]) or not halls}
+    empty = {paper: found for paper, halls in papers.items() if (found := [hall for hall in halls if hall not in used])}
+    is_all = "slips" in out_of_date(reading.office, [], shares, now)
     slips = [move.number for move in moves if not is_all and any("slips" in ON[kind] for kind in move.kinds())]
-    return Compared(before, moves, common, again, halls, [hall for hall in halls if hall not in used], slips)
+    return Compared(before, moves, common, again, empty, sorted({*sum(papers.values(), [])}), slips)
 
 
 def moved(before: Mapping[str, Line], now: Mapping[str, Line]) -> list[str]:

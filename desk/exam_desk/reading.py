@@ -176,8 +176,7 @@ class Reading(contextlib.AbstractContextManager["Reading"]):
     def prepare(self) -> None:
         """Lets `serve` open the office while something else is done, such as a sheet."""
         with self.asking:
-            if self.kept is None:
-                self.begun().begin()
+            self.begun().begin()
 
     def sheet(self, name: str, *values: str) -> str:
         """A sheet as the program prints it. Raises `Trouble` where it refuses it.

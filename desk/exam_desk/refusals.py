@@ -183,8 +183,8 @@ def cause(office: Office) -> str:
     """Why the database cannot be used, as far as it can be found out."""
     found = holder(office)
     if found is None:
-        free = shutil.disk_usage(os.path.dirname(os.path.realpath(office.path))).free >> 10
-        return lasting_cause(office) or f"no cause is to be seen now; its disk has {free:,} KiB free"
+        return lasting_cause(office) or "no cause is to be seen now; its disk has " \
+            f"{shutil.disk_usage(os.path.dirname(os.path.realpath(office.path))).free >> 10:,} KiB free"
     process, words = found
     if (turns.keep_state(office) or {}).get("serve") == process:
         return f"`keep` serves it (process {process})"

@@ -9,10 +9,10 @@ from collections.abc import Iterator
 from io import FileIO
 from typing import NamedTuple
 
+from exam_desk.files import INPUT
 from exam_desk.office import Office, Trouble
 
 PR_SET_PDEATHSIG = 1
-INPUT = "/dev/stdin"
 USE = re.compile(r"\bexamoffice\b( --(db|today) <[^>]*>)*")  # how a usage begins
 NAMED = re.compile("`(appeals SESSION|check|init|migrate|serve)`")  # commands in the words on refusals
 OPTIONS = re.compile(r"^ +--(db|today) .*\n( {10,}.*\n)*", re.MULTILINE)  # the lines on an option

@@ -39,7 +39,7 @@ STAYS = ("NOTE: {paper} in {session}, a second sitting of {first}, stays as it i
 STAYS_OPEN = "NOTE: {hall} stays open in {session}, for the second sitting of {people}"
 SAT_AS = "NOTE: {person} sits {first} as {paper}: `office second-sitting {number} {first} --undo` withdraws {paper}"
 MORE_STAY, MORE = "NOTE: .. and {count} more notes on second sittings", "{names} and {count} more"
-SITS = "{person} sits {first} until {finish}, and {paper} from {start} to {end} in {hall}, desk {desk}"
+SITS = "{person} sits {first} until {until}, and {paper} from {start} to {finish} in {hall}, desk {desk}"
 AGAIN, LACKS, MISSES = "{person} sits {paper} again", "{what} (has no desk)", "{what}, and misses {papers}"
 KEPT = {  # what a second sitting can keep: the words, and the columns
     "on {day} at {start}": ["day", "start"], "{minutes} minutes": ["minutes"], "requires {requires}": ["requires"],
@@ -209,9 +209,8 @@ def lines(planned: Plan, before: Reading, after: Reading) -> list[str | Said]:
                 if others else f"session {planned.session} and paper {planned.paper} stay, empty"]
     [second] = after.members(planned.session, [number])
     refuse_otherwise(planned, after, first, second)
-    then = second.sitting
-    said = Said(SITS, {"person": person, "first": first.paper, "finish": lacking(first.finish, first), "hall": then.hall,
-                       "paper": then.paper, "start": then.start, "end": then.finish, "desk": then.desk})
+    until = lacking(first.finish, first)
+    said = Said(SITS, {**second.sitting._asdict(), "person": person, "first": first.paper, "until": until})
     return [planned.made, said, *arranged(before, after, number, planned.first, planned.session)]
 
 

@@ -12,7 +12,6 @@ from exam_desk.words import clock
 
 SESSIONS, PAPERS, HALLS = KINDS = ("sessions", "papers", "halls")  # in the file; of its rows
 PLACE = "titles"  # beside the office: the path of the file
-READABLE = 0o644  # the web server is another user
 
 
 def text(rows: Rows) -> str:
@@ -39,10 +38,12 @@ def put(path: str, content: str) -> None:
     would cost an office."""
     if os.path.lexists(path) and not is_one(path):
         raise Trouble("is there and is no file of titles: name another one, or remove it first", path)
-    with tempfile.TemporaryDirectory(prefix=".titles-", dir=os.path.dirname(os.path.abspath(path))) as folder:
+    if not os.path.isdir(place := os.path.dirname(os.path.abspath(path))):
+        raise Trouble(f"there is no folder {place}", path)
+    with tempfile.TemporaryDirectory(prefix=".titles-", dir=place) as folder:
         making = os.path.join(folder, "titles.json")
         files.put(making, content.encode("ascii"))
-        os.chmod(making, READABLE)
+        os.chmod(making, 0o644)  # the web server is another user
         os.replace(making, path)
 
 

@@ -8,7 +8,7 @@ from flask import Blueprint, abort, redirect, render_template, request, url_for
 from werkzeug.datastructures import MultiDict
 from werkzeug.wrappers import Response
 
-from exam_desk import coding, effects, facts, files, lists, lodging, notebook, on_paper, overlaps, second_sitting
+from exam_desk import coding, effects, facts, files, lists, notebook, on_paper, overlaps, second_sitting, typed
 from exam_desk.changing import Step
 from exam_desk.reading import Person
 from exam_desk.sheets import slips as slip_pages
@@ -231,11 +231,11 @@ def lodge(form: Form) -> Plan:
     """An appeal for a candidate who is there, lodged over HTTP as candidates do: so its reason is no argument."""
     values, page = candidate(form, session="session")
     kind = form.get("kind", "")
-    if kind not in lodging.KINDS:
+    if kind not in typed.APPEALS:
         raise Wrong(page, kind=text("choose one"))
     field = "wanted_extra" if kind == "arrangement" else f"wanted_{kind}"
     wanted = [values["needs"]] if kind == "arrangement" else []
-    wanted.append(checked(page, form, **{field: lodging.KINDS[kind][-1]})[field])
+    wanted.append(checked(page, form, **{field: typed.APPEALS[kind][-1]})[field])
     lodged = (values["number"], values["session"], kind, *wanted, short(page, "reason"))
     return Plan({**values, "kind": kind, "wanted": wanted[-1]}, [], page, field,
                 dict.fromkeys((4, 12, 13, 20, 21), "session"), lodge=lodged)
@@ -247,7 +247,7 @@ def decide(form: Form) -> Plan:
     values |= {"ref": form.get("ref", ""), "outcome": form.get("outcome", "")}
     found = appeal_row(int(values["number"]), values["ref"])
     page: Page = ("appeals.one", {"number": found["number"], "ref": found["ref"]})
-    if values["outcome"] not in ("granted", "standing", "refused"):
+    if not typed.is_right("outcome", values["outcome"]):
         raise Wrong(page, outcome=text("choose one"))
     values["answer"] = short(page, "reason")
     step = command("decide", ["number", "ref", "outcome", "answer"], values)

@@ -134,7 +134,7 @@ def take(upload: Upload, name: str, content: bytes, way: Way, most: int = files.
 
 
 def refusal(upload: Upload, name: str, content: bytes, most: int) -> Markup | None:
-    """Why a file is not looked through, as far as its name, its length and its first bytes say, and what is there."""
+    """Why a file is not looked through, as far as its name, its length, its first bytes and the upload so far say."""
     reasons = [
         (name.startswith(OPEN), text("it only says that a workbook is open: save and close that, then bring it")),
         (not content.strip(), text("it is empty: save it once more, then bring it again")),

@@ -179,11 +179,10 @@ def sheet(code: str, sheet: str, hall: Sequence[str] = ()) -> str:
         abort(404)
     if sheet == "slips":
         return styled(slips.page(view().reading, slips.Choice([code], desks=True)))
-    try:
-        return styled(getattr(papers, sheet)(view().reading, code, *([halls] if sheet in on_paper.BY_HALL else [])))
-    except papers.NotDrawn as trouble:
-        asked = map(shown.opening, trouble.halls)
-        return render_template("charts.html", s=shown.sums, halls=[(each, standing(each)) for each in asked], of=halls)
+    if sheet == "chart" and (asked := papers.not_drawn(view().reading, code, halls)):
+        found = [(each, standing(each)) for each in map(shown.opening, asked)]
+        return render_template("charts.html", s=shown.sums, halls=found, of=halls)
+    return styled(getattr(papers, sheet)(view().reading, code, *([halls] if sheet in on_paper.BY_HALL else [])))
 
 
 @pages.get("/sessions/<code>/printed")

@@ -114,8 +114,8 @@ def leads_back(browser, what, page):
     key = FORMS[what][1].get("key")
     holds(place == (f"{what}-{key}" if key else what), f"{what} leads back to {place}")
     text = shown(browser.client.get(html.unescape(back)))
-    holds(text.count(f'id="{place}"') == 1 and "The form is as you left it" in text,
-          f"the page of {what} has {place} {text.count(place)} times")
+    holds("The form is as you left it" in text, f"{what} leads back to a page that does not say so")
+    holds((found := text.count(f'id="{place}"')) == 1, f"the page of {what} has {place} {found} times")
 
 
 def main():

@@ -57,7 +57,7 @@ def sentences(module):
 
 OF_KEEP = re.compile("^serving {|^process {|^no answer came|^it has more|it tries again|^`keep` (runs|does)|^the last line|"
                      r"cannot be had: \{1")
-FORMED = [*mistakes.CURES.values(), mistakes.EMPTY_ROW, *(
+FORMED = [*mistakes.CURES.values(), mistakes.EMPTY_ROW, files.NO_UTF_8, *(
     each for module in (mistakes, refusals) for each in sentences(module)
           if re.search(r"[a-z]{2,}\b.* |.* .*\b[a-z]{2,}", each) and not OF_COMMANDS.search(each)),
           *filter(OF_KEEP.search, sentences(keeping)), "Address already in use",

@@ -1,6 +1,7 @@
 """Nothing is sent to a process that is not the one that is meant, whoever has its port, and whenever they took it."""
 import asyncio
 import contextlib
+import datetime
 import os
 import select
 import socket
@@ -14,6 +15,7 @@ from unittest import mock
 
 import sample
 from exam_desk import asking, hold
+from exam_desk.office import Office, Trouble
 
 ANSWER = b"HTTP/1.1 200 OK\r\nContent-Length: 2\r\n\r\nok"
 REQUEST = b"GET /candidates/0001051/seats HTTP/1.1\r\nexam-code: VMGNZGEDP9\r\n\r\n"
@@ -33,9 +35,9 @@ with socket.socket(socket.AF_UNIX if "/" in sys.argv[1] else socket.AF_INET) as 
 
 
 @contextlib.contextmanager
-def listening(path="port"):
+def listening(path="port", answer=ANSWER):
     """Another process that listens; gives it and its place."""
-    line = [sys.executable, "-c", LISTENER, path, ANSWER.decode()]
+    line = [sys.executable, "-c", LISTENER, path, answer.decode()]
     with subprocess.Popen(line, stdout=subprocess.PIPE, text=True) as process:
         try:
             named = process.stdout.readline().strip()
@@ -115,10 +117,39 @@ class Asking(unittest.TestCase):
                 thread.join()
                 self.assertEqual(asking.received(connection), ANSWER, taken)
 
+    def test_each_answer_must_be_whole_and_good(self):
+        """Where one is not, no connection to those that are asked after it stays open."""
+        for answer, said in ((ANSWER[:-1], "the answer is not whole"),
+                             (ANSWER.replace(b"200 OK", b"404 No"), "the program answered 404 ok")):
+            found, before = [], os.listdir("/proc/self/fd")
+            with listening(answer=answer) as (process, place):
+                opened = len(os.listdir("/proc/self/fd"))
+                try:
+                    asking.ask_all(asking.Server(process.pid, place), [REQUEST] * 3, found, lambda done, of: None)
+                except (ConnectionError, Trouble) as fault:
+                    self.assertEqual((len(os.listdir("/proc/self/fd")), str(fault)), (opened, said))
+                    found.append("raised")
+            self.assertEqual((found, os.listdir("/proc/self/fd")), (["raised"], before))
+
     def test_status(self):
         for text, status in [(ANSWER, 200), (ANSWER[:-1], 0), (b"", 0), (ANSWER + b"x", 0), (b"\r\n\r\n", 0),
                              (b"HTTP/1.1 500 X\r\nContent-Length: 0\r\n\r\n", 500)]:
             self.assertEqual(asking.status_of(text), status, text)
+
+
+class Serves(unittest.TestCase):
+    def test_a_serve_that_refuses_the_office_is_said_and_not_begun_again(self):
+        with tempfile.TemporaryDirectory() as folder:
+            program = os.path.join(folder, "program")
+            with open(program, "w", encoding="utf-8") as file:
+                file.write(f"#!/bin/sh\necho begun >>{folder}/begun\necho 'refused 22' >&2\n")
+            os.chmod(program, 0o700)
+            heard = []
+            with contextlib.closing(asking.Serve(Office("o.db", program, datetime.date.today, ""), "o.db", heard.append)) as serve:
+                with self.assertRaisesRegex(Trouble, r"does not read the office \(refused 22\)"):
+                    serve.bodies([REQUEST], lambda done, of: None)
+            with open(os.path.join(folder, "begun"), encoding="utf-8") as file:
+                self.assertEqual((heard, file.read()), (["refused 22"], "begun\n"))
 
 
 class Requests(unittest.IsolatedAsyncioTestCase):
@@ -214,6 +245,14 @@ class Held(unittest.IsolatedAsyncioTestCase):
         self.open()
         self.assertEqual(await self.hold.answer(REQUEST), self.answer)
         self.assertEqual((self.hold.over.is_set(), self.hold.opened.is_set()), (False, True))
+
+    async def test_one_client_too_many_is_answered_before_it_asks(self):
+        self.hold.most_clients = 0
+        async with await asyncio.start_server(self.hold.take, "127.0.0.1", 0) as door:
+            reader, writer = await asyncio.open_connection(*door.sockets[0].getsockname())
+            self.assertEqual(await reader.read(), hold.FULL)
+            writer.close()
+        self.assertEqual((self.hold.clients, self.hold.asked), (0, 0))
 
     async def test_no_answer_in_time_begins_anew(self):
         with mock.patch("exam_desk.hold.ANSWER_SECONDS", 0.2), mock.patch("exam_desk.hold.GAP_SECONDS", 1):

@@ -156,6 +156,13 @@ class TestRefused(Backups):
             with mock.patch("exam_desk.copies.MOST_BYTES", 2 * len(self.first)):
                 self.refuses(backups.TOO_LARGE, b_zip=zipped(parts))
 
+    def test_a_disk_without_room_is_no_broken_backup(self):
+        for number, raised in ((errno.ENOSPC, OSError), (errno.EIO, Trouble)):
+            with mock.patch("shutil.copyfileobj", side_effect=OSError(number, "said")), self.assertRaises(raised) as fault:
+                with backups.brought(self.value, {"office.db": io.BytesIO(self.first)}):
+                    self.fail("it is there")
+            self.assertEqual(str(fault.exception), "[Errno 28] said" if raised is OSError else backups.BROKEN)
+
     def test_no_name_becomes_a_path(self):
         """Paths that lead out of it, links, names of a notebook's form and none."""
         link = zipfile.ZipInfo("notebook/rows.json")

@@ -11,7 +11,7 @@ import unittest
 from unittest import mock
 
 import sample
-from exam_desk import copies, logbook, private, snapshot
+from exam_desk import beside, copies, logbook, private, snapshot
 
 NOBODY = 65534
 APPEAL = "INSERT INTO appeal VALUES (1051, ?, 'MON-AM', 1, 'PC1', 0, 0, 'a draught', 1, NULL, '2027-05-01')"
@@ -105,6 +105,23 @@ class Strangers(Beside):
         self.assertFalse(os.path.exists(self.desk))
         owners = {os.stat(os.path.join(self.folder, name)).st_uid for name in os.listdir(self.folder)}
         self.assertEqual(owners, {NOBODY})
+
+
+    @unittest.skipUnless(os.getuid() == 0, "only root can give an office to another")
+    def test_an_office_that_root_has_brought(self):
+        os.chown(self.folder, NOBODY, NOBODY)
+        with (mock.patch("os.geteuid", return_value=NOBODY),
+              self.assertRaisesRegex(beside.Strange, "belongs to root: give it to its user, as root: `chown -R nobody: off")):
+            beside.make_folder(self.path)
+
+    def test_a_user_without_a_name(self):
+        self.assertEqual((beside.user_name(0), beside.user_name(4_000_000_000)), ("root", "4000000000"))
+
+    def test_a_pipe_in_the_place_of_a_file(self):
+        os.mkdir(self.desk, 0o700)
+        os.mkfifo(os.path.join(self.desk, "turn.lock"))
+        self.assertIn("desk-office.db/turn.lock is no file, but a folder, a pipe or a device\n",
+                      self.refused("withdraw", "0001000", "MA-1"))
 
 
 class Copies(Beside):
@@ -246,6 +263,17 @@ class Private(Beside):
                 self.assertEqual(os.listdir(folder), ["lock"])
 
 
+    def test_what_changes_meanwhile_is_copied_again(self):
+        """Of the moments before and after each try the third is another one; at last there are none."""
+        for moments, tries in (([None, 1, 2, 3, 3], 2), ([None] * 3, 0)):
+            target = os.path.join(self.folder, f"copy{tries}")
+            with (mock.patch("exam_desk.private.moment", side_effect=moments), mock.patch("exam_desk.private.PAUSE", 0),
+                  mock.patch("exam_desk.private.TRIES", 3), mock.patch("exam_desk.private.copy_still") as copied,
+                  contextlib.suppress(OSError) if tries else self.assertRaisesRegex(OSError, "changes all the time")):
+                private.copy_files(self.path, target)
+            self.assertEqual(copied.call_count, tries)
+
+
 class Log(Beside):
     def program(self, text):
         """A program that does this in place of the real one."""
@@ -298,6 +326,14 @@ class Log(Beside):
         texts = b"".join(self.bytes_of(os.path.join(self.desk, name)) for name in ("log", "want.lock"))
         self.assertNotIn("unwell", names + texts.decode())
         self.assertEqual(self.log()[1][0], "decide 0001051 HA1 refused")
+
+
+    def test_what_cannot_be_said_in_the_log_is_said_at_once(self):
+        for fault in (OSError(28, "No space left on device"), beside.Strange("log is a link, which is not followed")):
+            with mock.patch("exam_desk.logbook.write", side_effect=fault):
+                logbook.write_done(self.value, ["withdraw"], 0, "withdrawn")
+        self.assertEqual(self.said, ["no line in the log: No space left on device",
+                                     "no line in the log: log is a link, which is not followed"])
 
 
 class Back(Beside):
@@ -384,6 +420,14 @@ class Faults(Beside):
             named = f"office.db: there are rows that no office has (table {table})"
             for words in (["summary"], ["why", "MON-AM"]):
                 self.assertIn(named, self.refused(*words))
+
+    def test_another_database(self):
+        for statement, said in (("DROP TABLE office", "holds no office; `office init` makes one"),
+                                ("UPDATE office SET version = 9", "holds no office that this program reads"),
+                                ("DROP TABLE standing", "holds no office that this program reads")):
+            shutil.copy2(os.path.join(self.made, "office.db"), self.path)
+            self.change(statement)
+            self.assertIn(said, self.refused("summary"))
 
     def test_a_table_that_only_check_knows_to_be_bad_is_named(self):
         self.change("DELETE FROM seat WHERE number = 1000")

@@ -305,6 +305,13 @@ class Full(Changing):
                 changing.carry_out(self.value, [STEPS[0], STEPS[0]])
         self.assertEqual(len(self.kept()), 1)
 
+    def test_a_copy_that_cannot_be_moved_in_leaves_none_of_now(self):
+        copy = changing.carry_out(self.value, STEPS[:1]).copy
+        now = self.state()
+        with mock.patch("exam_desk.copies.move_in", side_effect=OSError(5, "Input/output error")), self.assertRaises(OSError):
+            changing.go_back(self.value, ["back", "1"], copy, lambda lines: True)
+        self.assertEqual((self.state(), self.kept()), (now, [copy]))
+
     @unittest.skipUnless(os.geteuid() == 0 and shutil.which("mount"), "a small disk needs root")
     def test_a_disk_that_fills_up(self):
         """The steps fill the disk: what is put back needs no room."""
@@ -383,6 +390,18 @@ class Killed(Changing):
         self.assertEqual({done.stderr for done in said.values()}, {f"{after}\n"})
         for words in looks:
             self.office(*words)
+
+    def test_a_change_that_has_no_copy_any_more(self):
+        self.office("withdraw", "0001000", "MA-1")
+        [copy] = self.kept()
+        self.assertFalse(copies.is_as_now(self.value, f"{copy}-gone"))
+        with self.assertRaisesRegex(Trouble, "this copy is gone by now"):
+            changing.go_back(self.value, ["back", "1"], f"{copy}-gone", lambda lines: True)
+        for copy, begun, said in (("", "", "has no end in the log: it is there whole or not at all; look"),
+                                  ("gone", "", "was broken off; its copy is gone"),
+                                  ("gone", "b", "was broken off behind `a`; its copy is gone")):
+            found = logbook.Unfinished("today", "back 1", copy, "a", begun)
+            self.assertEqual(changing.way_on(self.value, found), f"`back 1` of today {said}")
 
     def test_a_change_that_is_under_way_is_not_broken_off(self):
         going, may_end = (os.path.join(self.folder, name) for name in ("going", "may_end"))

@@ -5,11 +5,13 @@ import subprocess
 import tempfile
 import time
 import unittest
+from unittest import mock
 
 import sample
 import big_files
 import random_files
 from exam_desk import checking, files, mistakes, snapshot
+from exam_desk.office import Trouble
 
 TRIES, SEED = 150, 20261128
 
@@ -176,6 +178,10 @@ class Verdicts(sample.SampleSchool):
         self.assertIn(line, said)
         self.assertRegex(said, "\n7 files, [1-9][0-9]* mistakes?, 0 notes\n$")
 
+    def test_a_folder_in_the_place_of_a_file(self):
+        os.mkdir(os.path.join(self.folder, "halls.csv"))
+        self.assertIn("halls.csv is no file\n", self.refused("check-files", "."))
+
     def test_files_at_random(self):
         with tempfile.TemporaryDirectory() as folder, random_files.schools(folder, SEED) as schools:
             for _ in range(TRIES):
@@ -319,6 +325,10 @@ class Words(unittest.TestCase):
             "the same access code as 100\ufffd, and the same name: one candidate under two numbers?"]))
         halls = b"session,hall,desks,until,reserved\n" + b"".join(b"\xff,H%d,1,12:00,no\n" % place for place in range(257))
         self.assertIn("257 open halls in session \ufffd; a session holds 256", self.mistakes_in("openings", halls)[0])
+
+    def test_a_long_file_is_not_read(self):
+        with mock.patch("exam_desk.files.MOST_BYTES", 20), self.assertRaisesRegex(Trouble, "a.csv: is longer than 20 bytes"):
+            files.below_header(b"number,paper\n1,MA-1\n\n"[:21], "a.csv", ["number", "paper"])
 
     def test_where_records_begin_and_end(self):
         text = files.BOM + 'a,Å\x0b\x1c\u2028\n\n\r"b\r\nc",""\r\nd\r"e""'.encode()  # in UTF-8 Å has the byte 85

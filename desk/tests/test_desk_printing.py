@@ -69,7 +69,7 @@ class TestPrinting(DeskSchool):
         self.office("withdraw", "0001051", "CS-1")
         *moves, halls = self.office("printed", "MON-AM", "--look").splitlines()
         found = self.browser.words(self.PRINTED + "?piece").replace(" (new tab)", "")
-        self.assertIn("out of date: " + halls.removeprefix("to print again: doors, poster, cards, chart of ").partition(";")[0] + " ", found)
+        self.assertIn("out of date: " + halls.removeprefix("to print again: doors, poster, cards of ").partition(";")[0] + " ", found)
         self.assertIn("PC1", halls)
         self.assertIn("And of the whole session: Slips for candidates, with desk numbers , Notice board by name ,", found)
         self.assertIn(f"{len(moves)} candidates are not as on paper", found)
@@ -129,8 +129,8 @@ class TestPrinting(DeskSchool):
 
     def test_a_rehearsal_says_which_printed_papers_would_be_out_of_date(self):
         """The halls that `office printed --look` names once it is done; nothing where nobody noted what is printed."""
-        line = ("Printed papers {} out of date: MON-AM (Invigilators' sheets, Posters for doors, Desk cards, Seating "
-                "charts: {}; Notice board by name, Copies of each paper, Slips for candidates, with desk numbers)")
+        line = ("Printed papers {} out of date: MON-AM (Invigilators' sheets, Posters for doors, Desk cards: "
+                "{}; Notice board by name, Copies of each paper, Slips for candidates, with desk numbers)")
         rehearse = "/propose/withdraw", "/candidates/1051"
         page, _ = self.browser.post(*rehearse, number="0001051", paper="CS-1")
         self.assertNotIn("Printed papers", self.browser.words(page))
@@ -139,7 +139,7 @@ class TestPrinting(DeskSchool):
         shown = self.browser.words(page)
         self.browser.post(page + "/do", page)
         *_, again = self.office("printed", "MON-AM", "--look").splitlines()
-        halls = again.removeprefix("to print again: doors, poster, cards, chart of ").partition(";")[0]
+        halls = again.removeprefix("to print again: doors, poster, cards of ").partition(";")[0]
         self.assertIn("PC1", halls.split(", "))
         self.assertIn(line.format("would be", halls), shown)
         self.assertIn(line.format("are", halls), self.browser.words(page))
@@ -180,8 +180,8 @@ class TestPrinting(DeskSchool):
         _, sheet = self.browser.send(*asked, ("forms.csv", text.encode()), status=200)
         done = self.run_office("slips", "--order", self.write("forms.csv", text))
         said = re.findall('<p role="status" lang="en">(.*?)</p>\n', sheet)
-        is_said = re.compile('<p role="status".*\n')
-        self.assertEqual(is_said.sub("", sheet), done.stdout)
+        above = re.compile('<p role="status".*\n')
+        self.assertEqual(above.sub("", sheet), done.stdout)
         self.assertEqual(re.findall(r"<div class=sheet><h2><bdi>(.*?)</bdi>", sheet), ["10B", "&lt;i&gt;=10A", "in no group"])
         self.assertEqual([re.sub("</?bdi>", "", line) for line in said],
                          [line.removeprefix("office: ") for line in done.stderr.splitlines()])
@@ -196,7 +196,7 @@ class TestPrinting(DeskSchool):
         _, sheet = self.browser.send(*asked, ("", b""), status=200, codes="1")
         self.assertEqual(sheet, self.office("slips", "--codes"))
         _, sheet = self.browser.send(*asked, ("f.csv", b"number,group\n0001051,10B\n"), status=200, session="MON-AM")
-        self.assertEqual(is_said.sub("", sheet), self.run_office("slips", "MON-AM", "--desks", "--order", self.write(
+        self.assertEqual(above.sub("", sheet), self.run_office("slips", "MON-AM", "--desks", "--order", self.write(
             "f.csv", "number,group\n0001051,10B\n")).stdout)
 
     def test_notes(self):

@@ -14,6 +14,7 @@ from unittest import mock
 
 import sample
 from exam_desk import keeping, turns
+from exam_desk.office import Trouble
 
 NUMBER = sample.NUMBER
 
@@ -38,6 +39,7 @@ class Kept(sample.KeptSchool):
         self.assertEqual(self.ask()[0], 200)
         self.assertIn("serves this office already", self.refused("keep", "start", str(self.port)))
         self.assertIn("serves this office already", self.refused("serve", str(self.port)))
+        self.assertIn("serves this office already", self.refused("keep", "run", str(self.port)))
         self.assertEqual(os.listdir(os.path.join(self.desk, "days")), [sample.TODAY])
         os.rename(self.path, f"{self.path}.away")  # what is served still can be ended
         self.assertEqual(self.office("keep", "stop"), "ended\n")
@@ -166,7 +168,55 @@ class Ports(sample.SampleSchool):
                              "already in use\n$")
 
 
+class Beginning(sample.SampleSchool):
+    def test_a_long_journal_is_set_aside(self):
+        os.mkdir(self.desk, 0o700)
+        for length in (keeping.MOST_LOG // 2, keeping.MOST_LOG // 2 + 1):
+            self.write("desk-office.db/keep.log", "x" * length)
+            with self.assertRaisesRegex(Trouble, "`keep` does not run; the last line of .*: began$"):
+                keeping.start(self.value, ["sh", "-c", "echo; echo began >&2"])
+            self.assertEqual(os.path.exists(os.path.join(self.desk, "keep.log.old")), length > keeping.MOST_LOG // 2)
+        with self.assertRaisesRegex(Trouble, "`keep` does not run"):
+            keeping.stop(self.value)
+
+    def test_one_that_does_not_end_is_said(self):
+        with (mock.patch("exam_desk.turns.keep_state", return_value={"pid": 7}), mock.patch("os.kill") as sent,
+              mock.patch.object(keeping, "STOP_SECONDS", -1), self.assertRaisesRegex(Trouble, "has not ended yet")):
+            keeping.stop(self.value)
+        sent.assert_called_once_with(7, signal.SIGTERM)
+
+    def test_what_serve_complains_of_is_the_fault(self):
+        program = self.write("program", "#!/bin/sh\necho first >&2\necho refused 24 >&2\nexit 1\n")
+        os.chmod(program, 0o700)
+        with turns.lock_file(self.value, "keep.lock") as lock, mock.patch("exam_desk.keeping.say") as say:
+            keep = keeping.Keep(dataclasses.replace(self.value, program=program), "8080", 2, lock)
+            self.assertEqual(asyncio.run(keep.served()), "serve ended with status 1: refused 24")
+        self.assertEqual([call.args[0] for call in say.mock_calls[1:]], ["first", "refused 24"])
+
+    def test_a_full_journal_takes_no_line(self):
+        with open(os.path.join(self.folder, "journal"), "w+", encoding="utf-8") as journal, mock.patch("sys.stderr", journal):
+            keeping.say("first")
+            with mock.patch.object(keeping, "MOST_LOG", 5):
+                keeping.say("second")
+            journal.seek(0)
+            self.assertRegex(journal.read(), r"\A\S+ \S+ first\n\Z")
+
+
 class NewDay(sample.SampleSchool):
+    def test_a_copy_of_the_day_is_tried_again_while_it_serves(self):
+        async def served():
+            keep = keeping.Keep(self.value, str(sample.free_port()), 2, lock)
+            running = asyncio.create_task(keep.run())
+            async with asyncio.timeout(sample.PATIENCE):
+                while kept.call_count < 2:
+                    await asyncio.sleep(0.02)
+            keep.end()
+            await running
+        with (turns.lock_file(self.value, "keep.lock") as lock, mock.patch("exam_desk.keeping.say"),
+              mock.patch.object(keeping, "COPY_PAUSE", 0),
+              mock.patch.object(keeping.copies, "keep_day", side_effect=[OSError(28, "No space left on device"), "x"]) as kept):
+            asyncio.run(served())
+
     def test_a_copy_that_cannot_be_kept_is_tried_again(self):
         with turns.lock_file(self.value, "keep.lock") as lock:
             keep = keeping.Keep(self.value, "8080", 2, lock)

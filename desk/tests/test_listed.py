@@ -111,7 +111,8 @@ class Listed(test_changing.Changing):
                 self.assertIn(words, done.stderr)
         self.assertIn("there is no row; nothing is changed", self.run_list("number,paper\n").stderr)
         self.assertIn("No such file or directory; nothing is changed", self.refused("withdraw", "--list", "none.csv"))
-        self.assertIn("Is a directory; nothing is changed", self.refused("withdraw", "--list", self.folder))
+        self.assertIn("is no file, but a folder, a pipe or a device; `-` in its place reads what comes in; "
+                      "nothing is changed", self.refused("withdraw", "--list", self.folder))
         self.assertIn("there is no office here", self.run_list(GOOD, OFFICE=self.path + ".none").stderr)
         self.assertEqual((self.state(), self.kept(), self.log()), (self.before, [], []))
 

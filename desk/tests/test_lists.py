@@ -10,10 +10,11 @@ import stat
 import subprocess
 import time
 import unittest
+from unittest import mock
 
 import sample
 
-from exam_desk import appeals, files  # beside the tests' folder
+from exam_desk import appeals, coding, files  # beside the tests' folder
 from exam_desk.reading import Reading
 from exam_desk.words import UNSHOWN
 
@@ -236,6 +237,8 @@ class Lists(sample.SampleSchool):
         self.assertRegex(first, "^[B-Z][B-Z2-9]{9}$")
         self.assertEqual(stat.S_IMODE(os.stat(path[:-4] + "-with-codes.csv").st_mode), 0o600)
         self.assertIn("is there already", self.refused("codes", path))
+        with mock.patch("secrets.choice", side_effect="B" * 10 + "C" * 10):
+            self.assertEqual(coding.new_code({"B" * 10}), "C" * 10)
         header, check = "line 1 must be: number,name,code\n", "line 2 is wrong; `office check-files` says how\n"
         for text, said in [("number,name\n", header), ("number,name,code\n1,Bo,\n", check),
                            ("number,name,code\n0000001,Bo,abc\n", check), ("", header)]:

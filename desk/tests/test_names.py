@@ -18,7 +18,7 @@ IN_ORDER = [
     "Иванов, Пётр", "كريم، منى", "佐藤，愛",
 ]
 # The letter under which a name is looked for.
-UNDER = {"van der Berg, Jan": "v", "Jan van der Berg": "b", "Madonna": "m", "Ilya Łoś": "l", "\u200fOrr, Di": "o",
+UNDER = {"van der Berg, Jan": "v", "Jan van der Berg": "b", "Berg, Jan van der": "b", "Ana De Sousa": "s", "Madonna": "m", "Ilya Łoś": "l", "\u200fOrr, Di": "o",
          ", Zed": "z", "كريم، منى": "ك", "Berg,": "b", ",": "", "": "", " \u00a0": ""}
 
 

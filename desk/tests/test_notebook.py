@@ -38,7 +38,7 @@ WRONG = {
     "nobody": ("number,text\n0000004,a\n", "line 2: the office has no candidate '0000004'"),
     "too long": (f"number,text\n0000001,{'é' * 100}a\n", "line 2: a text has at most 200 bytes"),
     "a line in a text": ('number,text\n0000001,"a\nb"\n', "line 2: a text has at most 200 bytes"),
-    "no text": (b"number,text\n0000001,\xff\n", "line 2: a text has at most 200 bytes"),
+    "no text": (b"number,text\n0000001,\xff\n", "line 2: the letters are no UTF-8: save the file as CSV UTF-8"),
     "two texts": ("number,text\n0000001,a\n0000001,b\n", "line 3: there is another text for 0000001"),
 }
 
@@ -280,6 +280,7 @@ class Commands(sample.SampleSchool):
         self.assertIn("there is no session MON", self.refused("absent", "MON"))
 
     def test_printed(self):
+        self.office("rows", "GYM", "8")  # the other halls have no chart, since nobody said how their desks stand
         self.assertIn("nobody noted", self.refused("printed", "MON-AM", "--look"))
         foot = re.search("state [0-9a-f]{8}", self.office("board", "MON-AM"))[0]
         self.assertEqual(self.office("printed", "MON-AM"), "58 desks noted and 2 candidates without one, of "
@@ -300,7 +301,7 @@ class Commands(sample.SampleSchool):
         *moves, again, last = self.office("printed", "MON-AM", "--look").splitlines()
         self.assertEqual(last, "to take away, as nobody sits there now: doors, poster, cards, chart of GYM")
         halls = {place for line in moves for place in re.findall(r"(?:: |-> )([A-Z]\w+) \d+(?= ->|,|$)", line)}
-        self.assertEqual(again, f"to print again: doors, poster, cards, chart of {', '.join(sorted(halls - {'GYM'}))}; board, counts, slips")
+        self.assertEqual(again, f"to print again: doors, poster, cards of {', '.join(sorted(halls - {'GYM'}))}; board, counts, slips")
         self.assertIn("PC1", again)
 
     def test_the_log_and_the_notebook_say_who_noted_it(self):
@@ -380,7 +381,7 @@ class Commands(sample.SampleSchool):
                 (("import", "papers", paper), "LAT: paper title Latin -> Latin 1",
                  f"doors, cards of {of_latin}; counts, slips"),
                 (("school", "Hill"), "school: name - -> Hill",
-                 f"doors, poster, chart of {of_all}; board, counts, slips")):
+                 f"doors, poster of {of_all}; chart of AULA, PC1; board, counts, slips")):
             self.office("printed", "MON-AM")
             self.assertEqual(self.run_office("rows", "PC1", "6").stderr, "")  # there was no chart of it before
             self.assertEqual(self.office("printed", "MON-AM", "--look"), "the papers are up to date\n")

@@ -3,12 +3,15 @@ import io
 import os
 import pathlib
 import re
+import select
 import shutil
 import sqlite3
 import stat
 import subprocess
 import sys
+import time
 import unittest
+from concurrent.futures import ThreadPoolExecutor
 from contextlib import closing, redirect_stderr, suppress
 from dataclasses import replace
 from unittest import mock
@@ -68,11 +71,19 @@ class Words(sample.SampleSchool):
         pipe = os.path.join(self.folder, "rows")
         os.mkfifo(pipe)
         for path in (pipe, self.folder):
-            for words in (["import", "entries", path], ["what-if", "import", "--", "entries", path]):
+            for words in (["import", "entries", path], ["what-if", "import", "--", "entries", path], ["notes", path],
+                          ["codes", path], ["slips", "--order", path], ["reinstate", "--list", path],
+                          ["check-shortage", path]):
                 self.assertIn(f"office: {path}: is no file, but a folder, a pipe", self.refused(*words))
         self.assertFalse(os.path.exists(os.path.join(self.desk, "log")))
-        self.assertEqual(self.office("import", "entries", "/dev/stdin", stdin="number,paper\n0001000,MA-1\n"),
-                         "added 0 changed 0 same 1\n")
+        for path in ("-", "/dev/stdin"):
+            self.assertEqual(self.office("import", "entries", path, stdin="number,paper\n0001000,MA-1\n"),
+                             "added 0 changed 0 same 1\n")
+            self.assertIn("0 of 1 row", self.run_office("reinstate", "--list", path, stdin="number,paper\n1000,MA-1\n").stdout)
+            self.assertIn(">10B<", self.run_office("slips", "--order", path, stdin="number,group\n1000,10B\n").stdout)
+            self.assertEqual(self.office("codes", path, stdin="number,name,code\n0009000,Ann,\n"),
+                             "candidates-with-codes.csv: 1 code made for 1 row\n")
+            os.remove(os.path.join(self.folder, "candidates-with-codes.csv"))
         self.assertIn("  stdin line 2: number '1000': leading zeros lost?",
                       self.refused("import", "entries", "/dev/stdin", stdin="number,paper\n1000,MA-1\n"))
 
@@ -118,6 +129,15 @@ class Words(sample.SampleSchool):
             done = self.run_office("check")
             self.assertEqual((done.stdout, done.stderr), ("good\n", note))
             os.chmod(path, mode)
+
+    def test_who_waits_for_what_comes_in_says_so(self):
+        with subprocess.Popen([sample.DESK / "office", "notes", "-"], env=self.environment, stdin=subprocess.PIPE,
+                              stdout=subprocess.PIPE, stderr=subprocess.PIPE, text=True) as process:
+            self.assertTrue(select.select([process.stderr], [], [], sample.PATIENCE)[0])
+            self.assertEqual(process.stderr.readline(),
+                             "office: waiting for what comes in; Ctrl-D ends it, and Ctrl-C breaks off\n")
+            self.assertEqual(process.communicate("number,text\n1000,a scribe\n"),
+                             ("added 1 changed 0 removed 0 same 0\n", ""))
 
     def test_what_is_wrong_with_a_row(self):
         for row, text in [("0001000,A,B,WK3DEGZDPC", "4 in place of 3 fields; put a value with a comma in double quotes"),
@@ -285,7 +305,10 @@ class Words(sample.SampleSchool):
         self.assertIn("  PC1      sits here, at desk 1\n", self.office("why", "MON-AM", "0001051"))
         self.assertEqual(self.office("why", "MON-AM", "1051"), self.office("why", "MON-AM", "0001051"))
         self.assertIn("no session", self.refused("why", "XX"))
-        self.assertIn("sits nothing", self.refused("why", "MON-AM", "0009999"))
+        self.assertEqual(self.refused("why", "MON-AM", "9999"),
+                         "office: the office has no candidate 0009999; `office look NAME` finds a number by a name\n")
+        self.assertEqual(self.refused("why", "TUE-AM", "1000"),
+                         "office: 0001000 sits nothing in TUE-AM; `office look 0001000` says what they sit\n")
         self.assertIn("'Ferrari' is no candidate number: that has seven digits", self.refused("why", "MON-AM", "Ferrari"))
 
 
@@ -351,11 +374,33 @@ class Causes(sample.SampleSchool):
                 process.terminate()
 
     def test_another_program_is_waited_for(self):
-        script = ("import sqlite3, sys, time\nfile = sqlite3.connect(sys.argv[1])\nfile.execute('BEGIN IMMEDIATE')\n"
-                  "print(flush=True)\ntime.sleep(1)\nfile.rollback()\nfile.close()\n")
-        with subprocess.Popen([sys.executable, "-c", script, self.path], stdout=subprocess.PIPE) as process:
+        script = ("import sqlite3, sys\nfile = sqlite3.connect(sys.argv[1])\nfile.execute('BEGIN IMMEDIATE')\n"
+                  "print(flush=True)\nsys.stdin.read()\nfile.rollback()\nfile.close()\n")
+        log = os.path.join(self.desk, "log")
+        with (subprocess.Popen([sys.executable, "-c", script, self.path], stdin=subprocess.PIPE, stdout=subprocess.PIPE) as process,
+              ThreadPoolExecutor() as pool):
             process.stdout.readline()
-            self.assertEqual(self.office("withdraw", "0001000", "MA-1"), "withdrawn\n")
+            done = pool.submit(self.office, "withdraw", "0001000", "MA-1")
+            sample.until(lambda: os.path.exists(log) and os.path.getsize(log))
+            time.sleep(1)  # the program begins, and is refused
+            process.stdin.close()
+            self.assertEqual(done.result(), "withdrawn\n")
+
+    def test_who_has_the_file_is_named(self):
+        with open(self.path, "rb") as file, subprocess.Popen(["sleep", "60"], stdin=file) as process:
+            sample.until(lambda: refusals.holder(self.value))
+            self.assertEqual(refusals.cause(self.value), f"another command has it (process {process.pid}: sleep 60)")
+            with mock.patch("exam_desk.turns.keep_state", return_value={"pid": 1, "serve": process.pid}):
+                self.assertEqual(refusals.cause(self.value), f"`keep` serves it (process {process.pid})")
+            process.kill()
+
+    def test_what_was_overwritten(self):
+        self.write("office.db", b"x" * 4096)
+        self.assertIn("is no database, or its beginning was overwritten", refusals.lasting_cause(self.value))
+        for words, data in ((["withdraw", "0001000", "MA-1"], None), (["import", "halls", "h.csv"], b"hall,title,features\n")):
+            number = 9 if data is None else 1
+            self.assertEqual(refusals.explained(self.value, words, f"refused {number}", data),
+                             [f"  {refusals.SENTENCES[number]}"])
 
 
 class Back(sample.SampleSchool):

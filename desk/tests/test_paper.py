@@ -2,6 +2,7 @@
 import contextlib
 import csv
 import datetime
+import html as markup
 import io
 import re
 import shutil
@@ -24,9 +25,12 @@ LONG = ["W" * 80, "von " * 19 + "Hohe", "\u5c71\u7530" * 13, "e\u0301" * 26, "a"
 LOOK = """<script>
 const all = (which) => [...document.querySelectorAll(which)], bottom = (each) => each.getBoundingClientRect().bottom;
 document.body.textContent = all(".card").filter((card) => bottom(card.lastChild) > bottom(card)).length + " "
-  + all(".card i, .card p").filter((text) =>
+  + all(".card h2, .card p").filter((text) =>
     text.scrollHeight > text.clientHeight + 1 || text.scrollWidth > text.clientWidth).length + " "
   + new Set(all(".chart tbody tr").map((row) => Math.round(row.getBoundingClientRect().height))).size</script>"""
+FRAME = '<iframe scrolling=no style="width: 320px; height: 30000px" srcdoc="{}"></iframe>'
+NARROW = """<script>onload = () => document.body.textContent = [...document.querySelectorAll("iframe")].map((frame) =>
+  frame.contentDocument.documentElement.scrollWidth)</script>"""
 HOSTILE = ["=1+1", "<script>alert(1)</script>", "\"quotes\" & 'more'", "C1 \u009b2J \u0085 end", "left \u202eright",
            "line\u2028end", "</bdi></td></table>", "W" * 80, "\u00e9" * 40, "Ada Lin", " "]
 
@@ -78,7 +82,10 @@ class Papers(sample.SampleSchool):
         for text, said in (("number,form\n", "line 1 must be: number,group"),
                            ("number,group\n10x51,10B\n", "line 2: '10x51' is no number of seven digits"),
                            ("number,group\n0001051,10B\n0001051,10A\n", "line 3: there is another group for 0001051"),
-                           ('number,group\n0001051,"a\nb"\n', "line 2: a group has at most 80 bytes")):
+                           ('number,group\n0001051,"a\nb"\n', "line 2: a group has at most 80 bytes"),
+                           ("number,group\n0001051,10B\n0001017,Ä\n".encode("cp1252"),
+                            "line 3: the letters are no UTF-8: save the file as CSV UTF-8; nothing is done"),
+                           ("number,group\n".encode("utf-16"), "line 1: the letters are no UTF-8")):
             self.assertIn(said, self.refused("slips", "--order", self.write("wrong.csv", text)))
 
     def test_changes(self):
@@ -274,6 +281,9 @@ class Papers(sample.SampleSchool):
             text = self.office(*words, TODAY="2027-05-01 08:15")
             title = re.findall("<title>(.*)</title>", text)[0].replace("&#39;", r"\27 ")
             self.assertEqual(text.count(f'content: "{title}, {foot}"'), 1, words)
+            self.assertEqual(re.findall("<header class=screen><h1>(.*)</h1>, (.*)</header>", text),
+                             [(title.replace(r"\27 ", "&#39;"), foot)], words)
+            self.assertIn("\n@media print { .screen { display: none } }\n", text)
         now = datetime.datetime.now().replace(microsecond=0)
         [day, clock] = re.findall(r"printed (\S+) (\S+), state", self.office("board", "MON-AM"))[0]
         later = datetime.datetime.combine(now, datetime.time.fromisoformat(clock)) - now
@@ -281,6 +291,31 @@ class Papers(sample.SampleSchool):
         self.run_office("withdraw", "0001000", "MA-1")
         self.assertNotIn(foot, self.office("board", "MON-AM", TODAY="2027-05-01 08:15"))
         self.assertIn("TODAY is 2027-05-01 25:00", self.refused("board", "MON-AM", TODAY="2027-05-01 25:00"))
+
+    def test_what_a_screen_reader_finds(self):
+        """Each table has a name and headings of its columns and rows; what stands above these heads none of them."""
+        self.office("rows", "PC1", "4")
+        for words in (*PAGES, ["slips", "MON-AM", "--only", "0001051", "--codes"]):
+            text = self.run_office(*words).stdout
+            self.assertEqual(re.findall("<th[^>]*colspan", text), [], words)
+            tables = [table for table in re.findall("<table.*?</table>", text, re.S) if "role=none" not in table]
+            for table in tables if words[0] != "chart" else ():
+                self.assertRegex(table, "^<table aria-label='[^']+'><thead>", words)
+                rows = table.partition("<tbody>")[2].count("<tr>") - table.count("<td class=below")
+                self.assertEqual(table.count("<th scope=row"), rows, words)
+        self.assertEqual(re.findall("<title>(.*)</title>", text), ["Slips MON-AM, 0001051"])
+        self.assertIn('content: "Slips, printed ', text)
+        self.assertRegex(text, "<td class=top colspan=4><span>access code VMGNZGEDP9</span>.*<h2><bdi>Di Berg</bdi>")
+        self.assertRegex(self.office("doors", "MON-AM", "LIB"), r"<h2><bdi>Library<[\s\S]*<th scope=row><bdi>Jana Roe<")
+        self.assertRegex(self.office("chart", "MON-AM", "PC1"), "aria-label='PC1'><thead><tr><td colspan=4><h1>")
+        free = re.findall(r"<td><b>(\d+)</b><span class=screen> free<", self.office("chart", "TUE-AM", "PC1"))
+        self.assertEqual(free, [*map(str, range(3, 11))])
+
+    def test_sheets_are_no_wider_than_a_phone(self):
+        pages = [self.office(*words) for words in (["slips", "--codes"], *([name, "MON-AM"] for name in (
+            "board", "doors", "poster", "cards", "counts")))]
+        frames = "".join(FRAME.format(markup.escape(page)) for page in pages)
+        self.assertIn(">320,320,320,320,320,320<", self.browse("narrow", f"<body>{frames}{NARROW}", "--dump-dom")[1])
 
     def test_a_second_sitting_says_whose_copies_it_takes(self):
         """0001561 sits Latin until 10:30, and Mathematics 1 later."""

@@ -71,7 +71,7 @@ class Posters(sample.SampleSchool):
         self.office("school", "Hill <School>")
         text, _ = self.page("poster", "MON-AM")
         seats, names = self.seats(), self.names()
-        self.assertEqual(sorted(re.findall(r"<td><bdi>(.*?)</bdi></td><td class=n>(\d+)</td>", text)),
+        self.assertEqual(sorted(re.findall(r"<th scope=row><bdi>(.*?)</bdi></th><td class=n>(\d+)</td>", text)),
                          sorted((names[number], desk) for number, (_, desk) in seats.items()))
         self.assertEqual(text.count("<div class=sheet>"), len({hall for hall, _ in seats.values()}))
         self.assertNotRegex(text, r"\b0001\d{3}\b")
@@ -113,7 +113,7 @@ class Posters(sample.SampleSchool):
             for session, day, said in (
                     ("TUE-AM", "Tuesday, 8 June", "48 candidates, none has a desk: office why TUE-AM says why"),
                     ("WED", "Wednesday, 9 June", "nobody is entered")):
-                body = self.office(command, session).partition("<body>")[2]
+                body = self.office(command, session).partition("</header>")[2]
                 self.assertEqual(re.sub("<br>|<[^>]*>", "", body.replace("<br>", ", ")).split("\n")[1:3], [
                     f"Hill &lt;School&gt;, {day} 2027, 09:00 ({session})", said])
         self.assertIn("nobody has a desk in TUE-AM\n", self.refused("doors", "TUE-AM", "AULA"))
@@ -121,7 +121,7 @@ class Posters(sample.SampleSchool):
     def test_cards(self):
         text, _ = self.page("cards", "MON-AM")
         seats, names = self.seats(), self.names()
-        found = re.findall(r"<div class=card><b>(\d+)</b><i><bdi>(.*?)</bdi></i><p>(\d{7})</p>", text)
+        found = re.findall(r"<div class=card><b>(\d+)</b><h2><bdi>(.*?)</bdi></h2><p>(\d{7})</p>", text)
         self.assertEqual({number: (names[number], desk) for desk, _, number in found},
                          {number: (names[number], desk) for number, (_, desk) in seats.items()})
         halls = [hall for hall, _ in seats.values()]
@@ -143,8 +143,8 @@ class Posters(sample.SampleSchool):
             if hall == "AULA":
                 self.assertIn(f"<td><b>{desk}</b><bdi>{names[number]}</bdi> {number} ", text)
         done = self.run_office("chart", "MON-AM")  # of all halls those that can be drawn
-        self.assertEqual((done.stdout.partition("<body>")[2], done.stderr, done.returncode),
-                         (text.partition("<body>")[2], no_chart.format("GYM, LIB, PC1, R12", "GYM"), 0))
+        self.assertEqual((done.stdout.partition("</header>")[2], done.stderr, done.returncode),
+                         (text.partition("</header>")[2], no_chart.format("GYM, LIB, PC1, R12", "GYM"), 0))
         depth = len(rows)
         self.assertTrue(rows[1][0].startswith("2"), rows)
         self.assertEqual(rows[0][1][:len(str(depth + 1))], str(depth + 1))

@@ -84,6 +84,10 @@ class Readings(sample.SampleSchool):
                 modes = {name: os.stat(os.path.join(folder, name)).st_mode & 0o077 for name in [".", *names]}
                 self.assertEqual(set(modes.values()), {0}, modes)
 
+    def test_a_sheet_of_what_is_not_there(self):
+        with Reading(self.value) as reading, self.assertRaisesRegex(Trouble, "^no door-list NONE GYM: refused 4; nothing is printed$"):
+            reading.sheet("door-list", "NONE", "GYM")
+
     def test_a_program_that_ends_again_and_again(self):
         self.environment["EXAMOFFICE"] = self.write("ends", "#!/bin/sh\nexit 1\n")
         os.chmod(self.environment["EXAMOFFICE"], 0o700)

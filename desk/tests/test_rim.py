@@ -76,6 +76,12 @@ class Crowded(unittest.TestCase):
                 answer.side_effect = [said]
                 self.assertEqual(keeping.status(None), (False, f"process 7 does not serve now: {why}"))
 
+    def test_status_of_what_runs_elsewhere_or_could_write_nothing(self):
+        for state, said in (({"pid": 0, "state": "serving"}, "`keep` runs in another container or on another machine: ask there"),
+                            ({"pid": 7}, "process 7 runs, but cannot write down what it does: is the disk full?")):
+            with mock.patch("exam_desk.turns.keep_state", return_value=state):
+                self.assertEqual(keeping.status(None), (False, said))
+
     def test_status_says_what_a_refusal_means(self):
         for state, said in (("serve ended with status 1: refused 27",
                              "serve ended with status 1: refused 27; an earlier version of the program made the file; "
@@ -245,6 +251,20 @@ class Elsewhere(sample.SampleSchool):
 
 
 class Turns(sample.SampleSchool):
+    def test_who_does_not_give_the_office_back_is_named(self):
+        with turns.lock_file(self.value, "office.lock") as lock, mock.patch("exam_desk.turns.PATIENCE", 0.1):
+            self.assertTrue(turns.try_lock(lock))
+            for state, who in ((None, r"the program \(a command that began it was killed\)"),
+                               ({"pid": 7}, r"`keep` \(it does not step aside: \{'pid': 7\}\)")):
+                with (mock.patch("exam_desk.turns.keep_state", return_value=state), mock.patch("os.kill") as asked,
+                      self.assertRaisesRegex(Trouble, f"^{who} has the office, and 0.1 seconds are over; nothing is changed")):
+                    with turns.alone(self.value, ["check"]):
+                        self.fail("it has the office")
+                self.assertEqual(asked.call_count, state is not None)
+
+    def test_a_lock_that_is_not_there_is_free(self):
+        self.assertEqual((turns.is_taken(self.value, "want.lock"), turns.text_of(self.value, "want.lock")), (False, ""))
+
     def test_a_command_lets_candidates_go_first(self):
         """No command begins while `keep` holds the lock for candidates who wait; it says behind whom it waits."""
         with mock.patch("exam_desk.turns.SILENCE", 0.1):
@@ -340,6 +360,10 @@ class Sockets(sample.SampleSchool):
             with open(os.path.join(folder, name), "w", encoding="utf-8"):
                 with self.assertRaisesRegex(Trouble, words), keeping.listener(os.path.join(folder, "keep.socket")):
                     self.fail("it listens")
+            os.remove(os.path.join(folder, name))
+        path = os.path.join(folder, "keep.socket")
+        with keeping.listener(path), self.assertRaisesRegex(Trouble, f"{path} cannot be had: another process serves there"):
+            keeping.make_room(path)
 
 
 if __name__ == "__main__":

@@ -172,7 +172,9 @@ class Titles(SampleSchool):
         self.assertEqual(stat.S_IMODE(os.stat(path).st_mode), 0o644)
         with open(path, encoding="ascii") as file:
             self.assertEqual(file.read(), self.titles().stdout)
-        self.assertEqual(self.titles(os.path.join(self.folder.name, "no/titles.json")).returncode, 1)
+        none = os.path.join(self.folder.name, "no")
+        done = self.titles(os.path.join(none, "titles.json"))
+        self.assertEqual((done.returncode, done.stderr), (1, f"office: {none}/titles.json: there is no folder {none}\n"))
 
     def test_a_change_writes_it_again(self):
         path = os.path.join(self.folder.name, "titles.json")

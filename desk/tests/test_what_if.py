@@ -72,7 +72,9 @@ class WhatIf(test_changing.Changing):
                             (["codes", "--new", "1051", "--import"], "1 has another access code: 0001051"),
                             (["take", facts], "entries.csv: added 2 changed 0 same 172\n"),
                             (["open-hall", "MON-AM", "PC1", "12", "12:30"], "\n1 gets a desk\n"),
-                            (["lodge", "1051", "MON-AM", "hall", "PC1", "a draught"], r"\A0001051 D1 open\n\Z")):
+                            (["lodge", "1051", "MON-AM", "hall", "PC1", "a draught"],
+                             r"\A0001051 D1 open\nlodging moves nobody; if you granted it afterwards:\n"
+                             r"decided granted hall - moved 0\n1 loses the desk\n  MON-AM 0001051 Di Berg: PC1 desk 1 -> ")):
             self.assertRegex(self.office("what-if", *words), line)
             self.assertEqual((self.state(), self.kept(), self.log()), (before, [], []), words)
         done = self.run_office("what-if", "withdraw", "--list", leave)
@@ -125,6 +127,11 @@ class WhatIf(test_changing.Changing):
                           "decide, import, lodge, migrate, name, open-hall, reinstate, second-sitting, take, withdraw\n",
                           self.refused("what-if", word))
         self.assertIn("refused 11\n", self.refused("what-if", "lodge", "0001051", "TUE-AM", "hall", "PC1", "x"))
+        for word in ("absent", "notes", "printed", "rows", "school"):
+            self.assertEqual(self.refused("what-if", word, "x"),
+                             f"office: `office {word} ..` changes no seat, so there is nothing to rehearse; `office {word}` "
+                             "alone shows what is kept, and `office printed` which papers are out of date by it\n")
+        self.assertRegex(self.refused("what-if"), r"\Aoffice: name a command that does: back, .*, withdraw\n\Z")
         self.assertEqual(self.run_office("what-if", "take").returncode, 2)
         self.assertIn("office name", self.office("what-if", "name", "--help"))
 

@@ -29,7 +29,7 @@ from exam_desk.office import Trouble  # noqa: E402
 from exam_desk.workbook import cells, child, opening  # noqa: E402
 from exam_desk.workbook.cells import Sheet, packed, unpacked  # noqa: E402
 from exam_desk.workbook.headers import read_columns  # noqa: E402
-from exam_desk.workbook.reading import (Reading, mend_folder, read_book, workbook_of, write_folder,
+from exam_desk.workbook.reading import (Reading, mend_folder, put_workbook, read_book, workbook_of, write_folder,
                                         write_kind)  # noqa: E402
 from exam_desk.workbook.tables import Job, Report, together  # noqa: E402
 
@@ -252,6 +252,18 @@ class Mending(unittest.TestCase):
         self.assertEqual((2, 0), (len(reading.records["entries"]), reading.report.count("mistake")))
         self.assertEqual([], Job(Known()).together)
 
+    def test_the_code_of_the_office_stands_where_none_is(self) -> None:
+        known = Known()
+        known.codes = {b"0000001": b"OFFICE01", b"0000002": b"OFFICE02"}
+        book = rawbook.xlsx(cases.candidates(["0000001", "Ada", "CODE0001"], ["0000002", "Bo", None], ["0000003", "Cy", None]))
+        reading = read_book(unpacked(child.read(book)), Job(known))
+        self.assertEqual(["CODE0001", "OFFICE02", ""], [record.fields[2] for record in reading.records["candidates"]])
+
+    def test_a_folder_without_one_of_the_files_is_refused(self) -> None:
+        with tempfile.TemporaryDirectory() as folder, self.assertRaisesRegex(Trouble, f"{folder}: none of the seven files"):
+            pathlib.Path(folder, "pupils.csv").write_text("number,name,code\n", "utf-8")
+            mend_folder(folder, Job(Known()), None, lambda text: None)
+
 
 class Writing(unittest.TestCase):
     def test_a_folder_is_made_whole_or_not_at_all(self) -> None:
@@ -266,6 +278,8 @@ class Writing(unittest.TestCase):
             with self.assertRaisesRegex(Trouble, "is there already"):
                 write_folder(target, Reading({}, Report()), "read.txt")
             self.assertEqual([], os.listdir(target))
+            with self.assertRaisesRegex(Trouble, "must end in .xlsx"):
+                put_workbook(os.path.join(folder, "new.ods"))
             with self.assertRaisesRegex(Trouble, "the folder .*/none is not there"):
                 write_folder(os.path.join(folder, "none", "new"), Reading({}, Report()), "read.txt")
 

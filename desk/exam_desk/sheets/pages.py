@@ -18,7 +18,8 @@ from exam_desk.words import plain
 STYLES = pathlib.Path(__file__).with_name("styles")
 DOCUMENT = ('<!doctype html>\n<html lang="en"><head><meta charset="utf-8">'
             '<meta name="viewport" content="width=device-width"><title>{}</title>\n'
-            '<style>@page {{ @bottom-left {{ content: "{}" }} }}{}</style></head>\n<body>\n{}</body></html>\n')
+            '<style>@page {{ @bottom-left {{ content: "{}" }} }}{}</style></head>\n<body>\n'
+            '<header class=screen><h1>{}</h1>, {}</header>\n{}</body></html>\n')
 HEAD = re.compile("(?:([a-z]+):)?(.*)")  # of a column: its kind, if it has one, and its words
 SECOND = ", second sitting of {}"
 # How a paper is named: forms of its code and title, and for a second sitting of the code that people know, behind them.
@@ -62,31 +63,36 @@ def hall_names(rows: Rows) -> dict[str, Markup]:
     return {code: html("{} ({})", text(title), code) for code, title in facts.hall_titles(rows).items()}
 
 
-def cells(tag: str, values: Iterable[object], kinds: Iterable[str], scope: str = "") -> str:
+def cells(tags: Iterable[str], values: Iterable[object], kinds: Iterable[str]) -> str:
     """The cells of a row, each of the kind of its column: `n` to the right, `w` in one line."""
-    return "".join(f"<{tag}{scope}{f' class={kind}' if kind else ''}>{safe(value)}</{tag}>"
-                   for value, kind in zip(values, kinds))
+    return "".join(f"<{tag}{f' class={kind}' if kind else ''}>{safe(value)}</{tag[:2]}>"
+                   for tag, value, kind in zip(tags, values, kinds))
 
 
-def table(heads: Sequence[str], rows: Iterable[Sequence[object]], above: Markup = Markup(), below: Markup = Markup(),
-          name: str = "") -> Markup:
-    """A table. A head says the kind of its column before a colon, as in `n:Desk`. What stands above comes on each page
-    again, as the heads do; what stands below is the last row. The name is one of the style."""
+def table(label: str, heads: Sequence[str], rows: Iterable[Sequence[object]], above: Markup = Markup(),
+          below: Markup = Markup()) -> Markup:
+    """A table, with a label for who does not see it. A head says the kind of its column before a colon, as in `n:Desk`.
+    What heads a row is its name, or else its first cell. What stands above comes on each page again, as the heads do;
+    what stands below is the last row."""
     kinds, words = zip(*(HEAD.findall(head)[0] for head in heads))
-    over = f"<tr><th class=top colspan={len(heads)}>{above}</th></tr>" if above else ""
-    body = "\n".join(f"<tr>{cells('td', row, kinds)}</tr>" for row in rows)
+    tags = ["td"] * len(heads)
+    tags[words.index("Name") if "Name" in words else 0] = "th scope=row"
+    over = f"<tr><td class=top colspan={len(heads)}>{above}</td></tr>" if above else ""
+    body = "\n".join(f"<tr>{cells(tags, row, kinds)}</tr>" for row in rows)
     under = f"<tr><td class=below colspan={len(heads)}>{below}</td></tr>\n" if below else ""
-    return Markup(f"<table{f' class={name}' if name else ''}>"
-                  f"<thead>{over}<tr>{cells('th', words, kinds, ' scope=col')}</tr></thead>\n"
+    columns = cells(["th scope=col"] * len(heads), words, kinds)
+    return Markup(f"<table aria-label='{safe(label)}'><thead>{over}<tr>{columns}</tr></thead>\n"
                   f"<tbody>\n{body}\n{under}</tbody></table>\n")
 
 
-def document(reading: Reading, title: str, body: Markup, *names: str) -> str:
-    """Pages of A4 with the styles of these names. The foot of each has the title, the time, and the state."""
-    printed = f"{title}, printed {reading.office.now():%Y-%m-%d %H:%M:%S}, state {reading.mark}"
-    quoted = re.sub(r"[^\w ,.:-]", lambda sign: rf"\{ord(sign[0]):x} ", printed)  # between quotes in a style
+def document(reading: Reading, title: str, body: Markup, *names: str, of: str = "") -> str:
+    """Pages of A4 with the styles of these names. The foot of each has the title, the time, and the state. On a screen
+    they stand once, above all, with what the document is of where its title does not say it."""
+    printed = f"printed {reading.office.now():%Y-%m-%d %H:%M:%S}, state {reading.mark}"
+    quoted = re.sub(r"[^\w ,.:-]", lambda sign: rf"\{ord(sign[0]):x} ", f"{title}, {printed}")  # as a text of a style
     styles = "".join(f"\n{(STYLES / f'{name}.css').read_text('utf-8')}" for name in ("page", *names))
-    return str(html(DOCUMENT, title, Markup(quoted), Markup(styles), body))
+    headed = f"{title} {of}".strip()
+    return str(html(DOCUMENT, headed, Markup(quoted), Markup(styles), headed, printed, body))
 
 
 def school(office: Office, behind: str = "") -> Markup:

@@ -23,14 +23,14 @@ from exam_desk.words import clock, long_day, short_day
 BOARD = "<h1>{}{}</h1>\n<p class=legend>{}</p>\n<div class=columns>{}</div>\n"
 ASK = Markup("<b>ask the office</b>")  # in place of a hall
 # What stands in a head of a table comes on each page again.
-POSTER = ("<table class=door><thead><tr><th><h1>{}</h1>\n<h2>{}</h2>\n<p>{}{} &middot; {}</p></th></tr></thead>\n"
-          "<tbody><tr><td><div class=columns>{}</div></td></tr></tbody></table>")
-CARD = "<div class=card><b>{}</b><i>{}</i><p>{}</p><p>{}</p><p>{}</p></div>"
+POSTER = ("<table class=door role=none><thead><tr><td><h1>{}</h1>\n<h2>{}</h2>\n<p>{}{} &middot; {}</p></td></tr>"
+          "</thead>\n<tbody><tr><td><div class=columns>{}</div></td></tr></tbody></table>")
+CARD = "<div class=card><b>{}</b><h2>{}</h2><p>{}</p><p>{}</p><p>{}</p></div>"
 CARDS = 10  # on a page
 UPRIGHT = 12  # desks in a row at most where a page is upright
-NO_PLACE = Markup("<td class=none></td>")
-CHART = ("<table class='{0}' style='--across: {1}'><thead><tr><th colspan={1}><h1>{2} ({3})</h1>\n"
-         "<p>{4}{5}. Front of the hall above. {6}</p></th></tr></thead>\n<tbody>\n{7}</tbody></table>")
+NO_PLACE, FREE = Markup("<td class=none></td>"), Markup("<span class=screen> free</span>")
+CHART = ("<table class='{0}' style='--across: {1}' aria-label='{3}'><thead><tr><td colspan={1}><h1>{2} ({3})</h1>\n"
+         "<p>{4}{5}. Front of the hall above. {6}</p></td></tr></thead>\n<tbody>\n{7}</tbody></table>")
 COPIES = ["Hall", "Paper", "n:Copies", "n:Last finish", "box:Spare", "box:Packed"]
 ALL_COPIES = ["Paper, all halls", "n:Copies", "n:Last finish"]
 TOLD = ["w:Session", "w:Number", "Name", "Before", "Now", "box:Told"]
@@ -39,7 +39,7 @@ SAT = "{}<br>{}<br>{}, <span class=w>{}–{}</span>"
 SIGNED = ["n:Desk", "w:Number", "Name", "Paper", "sign:Signature"]
 DOORS = ["n:Desk", "w:Number", "Name", "Paper", "w:Finish", "Arrangement", "sign:Signature"]
 LATER = "or later"  # below the finish of who has a note, since it may be of rest breaks
-ABOVE = "<span>{}<br>open until {}, last finish {}<br>{}, {} expected</span><b>{}</b><br>{}, page {} of {}<br>{}"
+ABOVE = "<span>{}<br>open until {}, last finish {}<br>{}, {} expected</span><h2>{}</h2><br>{}, page {} of {}<br>{}"
 COLLECTED = Markup("{}: {} &ensp; present ____ &ensp; scripts ____")  # for each of several papers of a hall
 BELOW = Markup("Present: ____ &ensp; Absent: ____ &ensp; Scripts: ____ &ensp; Collected by: __________ &ensp; "
                "Invigilator: __________")
@@ -52,15 +52,6 @@ ON_CARD, LINES_OF_CARD, ON_CHART, ON_POSTER = 75, 120, 60, 70  # how wide large 
 WIDE = "WFA"  # letters that are as wide as high, or may be
 MARKS = {"Mn", "Me", "Cf"}  # stand over other letters, or nowhere
 Row = tuple[list[object], float]  # the cells of a candidate, and how high they are
-
-
-class NotDrawn(Trouble):
-    """Nobody has said how the desks of some halls stand; of the others there are charts."""
-
-    def __init__(self, halls: list[str], others: list[str]) -> None:
-        super().__init__(f"no chart of {', '.join(halls)} yet: say once how the desks stand, `office rows {halls[0]} "
-                         "8` for rows of 8 desks")
-        self.halls, self.others = halls, others
 
 
 def when(reading: Reading, session: str) -> Markup:
@@ -106,7 +97,7 @@ def board(reading: Reading, session: str) -> str:
     rows = [[names[each.number], each.sitting.hall or ASK, desk(each, printed) if each.sitting.hall else ""]
             for each in members]
     body = html(BOARD, school(reading.office, "<br>"), moment, legend,
-                table(["Name", "w:Hall", "n:Desk"], rows, moment))
+                table("Candidates by name", ["Name", "w:Hall", "n:Desk"], rows, moment))
     return document(reading, f"Notice board {session}", body, "paper", "board")
 
 
@@ -117,7 +108,8 @@ def poster(reading: Reading, session: str, asked: Collection[str] = ()) -> str:
     return of_desks(reading, session, "Posters", (
         html(POSTER, fitted(text(opening.title), ON_POSTER), moment, name, opening.hall,
              joined([lists.count(len(there), "candidate"), *others.get(opening.hall, [])], "<br>"),
-             table(["Name", "n:Desk"], [[names[each.number], each.sitting.desk] for each in lists.by_name(there)]))
+             table(opening.hall, ["Name", "n:Desk"],
+                   [[names[each.number], each.sitting.desk] for each in lists.by_name(there)]))
         for opening, there in lists.halls(reading, session, asked)), "poster")
 
 
@@ -132,19 +124,30 @@ def cards(reading: Reading, session: str, asked: Collection[str] = ()) -> str:
     return of_desks(reading, session, "Desk cards", sheets, "cards")
 
 
+def not_drawn(reading: Reading, session: str, asked: Collection[str] = ()) -> list[str]:
+    """The halls among them of which nobody has said how their desks stand."""
+    rows = notebook.rows_of_halls(reading.office)
+    return [opening.hall for opening, _ in lists.halls(reading, session, asked) if opening.hall not in rows]
+
+
 def chart(reading: Reading, session: str, asked: Collection[str] = ()) -> str:
-    """Seating charts: halls as rows of desks, with who sits where. Raises `NotDrawn` too, with the other halls."""
+    """Seating charts: halls as rows of desks, with who sits where. A warning names halls of which there is none. Raises
+    `Trouble` where there is no other."""
     halls, rows = lists.halls(reading, session, asked), notebook.rows_of_halls(reading.office)
     moment, name, papers = when(reading, session), school(reading.office, ". "), paper_names(reading.rows, CODE)
-    codes, others = [opening.hall for opening, _ in halls], overlaps.in_halls(reading, session)
-    if unknown := [code for code in codes if code not in rows]:
-        raise NotDrawn(unknown, [code for code in codes if code in rows])
+    others = overlaps.in_halls(reading, session)
+    if unknown := not_drawn(reading, session, asked):
+        said = (f"no chart of {', '.join(unknown)} yet: say once how the desks stand, `office rows {unknown[0]} 8` for "
+                "rows of 8 desks")
+        if len(unknown) == len(halls):
+            raise Trouble(said)
+        reading.office.warn(said)
     return of_desks(reading, session, "Seating charts", (
         html(CHART, "chart wide" if stand.across > UPRIGHT else "chart", stand.across, text(opening.title),
              opening.hall, name, moment,
              joined([lists.count(len(there), "candidate"), *others.get(opening.hall, [])], "<br>"),
              joined(drawn(opening.desks, there, stand, papers)))
-        for opening, there in halls for stand in [rows[opening.hall]]), "chart")
+        for opening, there in halls if (stand := rows.get(opening.hall))), "chart")
 
 
 def drawn(desks: int, members: Iterable[Member], rows: Rows, papers: Mapping[str, Markup]) -> Iterator[Markup]:
@@ -153,7 +156,7 @@ def drawn(desks: int, members: Iterable[Member], rows: Rows, papers: Mapping[str
               for number, name, sits in members}
     for line in numbered(desks, rows):
         yield html("<tr>{}</tr>\n", joined(
-            html("<td><b>{}</b>{}</td>", place, seated.get(place, "")) if place else NO_PLACE for place in line))
+            html("<td><b>{}</b>{}</td>", place, seated.get(place, FREE)) if place else NO_PLACE for place in line))
 
 
 def numbered(desks: int, rows: Rows) -> list[list[int | None]]:
@@ -185,9 +188,9 @@ def counts(reading: Reading, session: str) -> str:
             for (_, hall, code), found in sorted(in_halls.items())]
     total = [[papers[code], len(found), max(found)] for code, found in sorted(in_all.items())]
     moment = when(reading, session)
-    above = html("{}<b>Copies</b> &emsp; {}", school(reading.office, "<br>"), moment)
-    return document(reading, f"Copies {session}", table(COPIES, rows, above) + table(ALL_COPIES, total, moment),
-                    "paper", "counts")
+    above = html("{}<h2>Copies</h2> &emsp; {}", school(reading.office, "<br>"), moment)
+    tables = table("Copies", COPIES, rows, above) + table("Copies, all halls", ALL_COPIES, total, moment)
+    return document(reading, f"Copies {session}", tables, "paper", "counts")
 
 
 def doors(reading: Reading, session: str, asked: Collection[str] = ()) -> str:
@@ -248,7 +251,8 @@ def of_door(heading: Markup, titles: Mapping[str, Markup], opening: facts.Openin
         head = html(ABOVE, heading, clock(opening.until), last, lists.count(opening.desks, "desk"),
                     lists.count(len(members), "candidate"), text(opening.title), opening.hall, place, len(parts),
                     joined(said, "<br>"))
-        yield table(DOORS, rows[part], head, BELOW if place == len(parts) else Markup())
+        yield table(f"{opening.hall}, page {place} of {len(parts)}", DOORS, rows[part], head,
+                    BELOW if place == len(parts) else Markup())
 
 
 def row_of(member: Member, papers: Mapping[str, Markup], told: Iterable[str], printed: Mapping[str, Line],
@@ -301,11 +305,12 @@ def changes(before: Reading, after: Reading, found: Iterable[Change], since: str
     what they are compared with."""
     papers = paper_names(before.rows) | paper_names(after.rows)
     halls = hall_names(before.rows) | hall_names(after.rows)
-    tables = [table(TOLD, [told(each, papers, halls) for each in part],
-                    html("<b>{}</b>", telling.counted(telling.KINDS[kind], [each.number for each in part])))
+    tables = [table(telling.KINDS[kind][1], TOLD, [told(each, papers, halls) for each in part],
+                    html("<h2>{}</h2>", telling.counted(telling.KINDS[kind], [each.number for each in part])))
               for kind, part in telling.by_kind(found).items()]
-    above = html("<h1>Who must be told</h1>\n<p>{}{}</p>\n", school(after.office, " &middot; "), since)
-    return document(after, "Changes", above + (joined(tables) or Markup("<p>Nobody.</p>\n")), "paper", "changes")
+    body = html("<h1>Who must be told</h1>\n<p>{}{}</p>\n{}", school(after.office, " &middot; "), since,
+                joined(tables) or Markup("<p>Nobody.</p>\n"))
+    return document(after, "Changes", body, "paper", "changes", of=since)
 
 
 def told(change: Change, papers: Mapping[str, Markup], halls: Mapping[str, Markup]) -> list[object]:

@@ -8,8 +8,7 @@ import math
 import sqlite3
 from collections.abc import Callable, Iterator
 
-from exam_desk import facts
-from exam_desk.lists import by_desk
+from exam_desk import facts, lists
 from exam_desk.reading import Reading
 from exam_desk.office import Trouble
 from exam_desk.words import clock, plain
@@ -40,8 +39,7 @@ def written(reading: Reading, row: sqlite3.Row) -> Sheets:
     start = f"{date} start {clock(row['start'])}"
     found: Sheets = {}
     members, missed = reading.members(session), reading.clashes(session)
-    for opening in facts.openings(reading.rows, session):
-        there = by_desk(members, opening.hall)
+    for opening, there in lists.halls(reading, session):
         found["door-list", session, opening.hall] = [
             f"DOOR LIST session {session} hall {opening.hall}", f"{start} desks {opening.desks} seated {len(there)}",
             *(f"{it.sitting.desk:4} {it.number} {it.sitting.paper:12} {it.name}" for it in there)]
@@ -51,7 +49,6 @@ def written(reading: Reading, row: sqlite3.Row) -> Sheets:
             f"ATTENDANCE session {session} paper {paper}", f"{start} candidates {len(sits)}",
             *(f"{it.number} {it.sitting.hall or '-':8} {it.sitting.desk or '-':>4} {it.sitting.finish} {it.name}"
               for it in sits)]
-    found = {name: sheet for name, sheet in found.items() if len(sheet) > HEADING}
     lost = [f"{it.number} sits {it.sitting.paper:12} clash {paper}"
             for it in members for paper in missed.get(it.number, [])]
     found["clashes", session] = [f"CLASHES session {session}", f"{date} clashes {len(lost)}", *lost]

@@ -69,19 +69,19 @@ class Page:
             rows.append([html("<a href='#hall-{0}'>{0}</a> {1}{2}<br><small>{3}</small>", each.hall, text(each.title),
                               mark, "; ".join(details)),
                          bar([("taken", taken), ("free", free)], widest, label), taken, free])
-        return table(["Hall", "Desks (dark: taken)", "n:Taken", "n:Free"], rows, name="halls")
+        return table("Halls", ["Hall", "Desks (dark: taken)", "n:Taken", "n:Free"], rows)
 
     def hall_part(self, opening: Opening) -> Markup:
         rows = [[each.sitting.desk, each.number, text(each.name), self.papers[each.sitting.paper], each.sitting.finish]
                 for each in self.seated[opening.hall]]
-        body = table(["n:Desk", "Number", "name:Name", "Paper", "Finish"], rows)
+        body = table(opening.hall, ["n:Desk", "Number", "name:Name", "Paper", "Finish"], rows)
         return html("<section class=hall id=hall-{0}><h3>{0} <small>{1}</small></h3>{2}</section>", opening.hall,
                     text(opening.title), body if rows else Markup("<p>Nobody sits here.</p>"))
 
     def clashes_part(self) -> Markup:
         rows = [[member.number, text(member.name), self.papers[member.sitting.paper], self.papers[code]]
                 for member in self.members for code in self.clashes.get(member.number, [])]
-        return table(["Number", "name:Name", "Sits", "Clash: does not sit"], rows) if rows else NONE
+        return table("Clashes", ["Number", "name:Name", "Sits", "Clash: does not sit"], rows) if rows else NONE
 
     def appeals_part(self) -> Markup:
         """The appeals as the register has them, also of who has left the session since."""
@@ -92,7 +92,8 @@ class Page:
             rows.append([f"{row['number']:07}", text(row["name"]) + gone, row["ref"], appeals.KINDS[row["kind"]],
                          appeals.subject(row), row["lodged"],
                          html("<span class='tag {0}'>{0}</span>", appeals.STATES[row["state"]])])
-        return table(["Number", "name:Name", "Reference", "Kind", "About", "Lodged", "State"], rows) if rows else NONE
+        heads = ["Number", "name:Name", "Reference", "Kind", "About", "Lodged", "State"]
+        return table("Appeals", heads, rows) if rows else NONE
 
     def shortage_part(self) -> Markup:
         if self.shortage.unseated == 0:

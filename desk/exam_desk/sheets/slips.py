@@ -53,11 +53,11 @@ def page(reading: Reading, choice: Choice) -> str:
     by_group: dict[str, list[Markup]] = {}
     for each in slips_of(reading, choice):
         rows = [row(choice, sat, papers, halls) for sat in each.sat]
-        above = html("{}{}", school, heading(choice, each, address))
-        by_group.setdefault(each.group, []).append(html("<div class=slip>{}</div>\n", pages.table(HEADS, rows, above)))
+        found = pages.table(each.person.number, HEADS, rows, html("{}{}", school, heading(choice, each, address)))
+        by_group.setdefault(each.group, []).append(html("<div class=slip>{}</div>\n", found))
     form = "<div class=sheet><h2>{}</h2>\n{}</div>\n" if choice.groups else "{1}"
-    slips = joined(html(form, text(group or "in no group"), joined(found)) for group, found in by_group.items())
-    return pages.document(reading, "Slips", slips, "paper", "slips")
+    slips = joined(html(form, text(group or "in no group"), joined(each)) for group, each in by_group.items())
+    return pages.document(reading, "Slips", slips, "paper", "slips", of=few([*choice.sessions, *choice.only]))
 
 
 def heading(choice: Choice, each: Slip, address: str) -> Markup:
@@ -65,7 +65,7 @@ def heading(choice: Choice, each: Slip, address: str) -> Markup:
     code = html("<span>access code {}</span>", each.person.code) if choice.codes else ""
     group = html("<span>{}</span>", text(each.group)) if each.group else ""
     below = [each.note, address and f"your seats and appeals: {address}"]
-    return html("{}{}<span>number {}</span><b>{}</b>{}", code, group, each.person.number, text(each.person.name),
+    return html("{}{}<span>number {}</span><h2>{}</h2>{}", code, group, each.person.number, text(each.person.name),
                 joined(html("<br><small>{}</small>", text(line)) for line in below if line))
 
 

@@ -5,7 +5,7 @@ import sqlite3
 from collections import Counter
 from collections.abc import Collection, Iterator
 
-from exam_desk import appeals, facts, lists, overlaps
+from exam_desk import appeals, facts, lists, notebook, overlaps
 from exam_desk.lists import has_words, letters
 from exam_desk.office import Office, Trouble
 from exam_desk.reading import Person, Reading, Sitting
@@ -70,7 +70,6 @@ def fate(row: sqlite3.Row, sitting: Sitting | None, halls: dict[str, str]) -> st
 
 def noted(reading: Reading, number: str) -> Iterator[str]:
     """The note on a candidate, and where somebody has noted that they were absent."""
-    from exam_desk import notebook  # here, since other lists answer sooner without it
     if note := notebook.notes(reading.office).get(number):
         yield f"  note: {note}"
     sessions = dict.fromkeys(row["session"] for row in reading.rows.execute(ENTRIES, [int(number)]))
@@ -120,7 +119,6 @@ def summary(reading: Reading, asked: Collection[str] = ()) -> str:
 
 def notes(office: Office, rows: Rows) -> str:
     """The notes on candidates, a line for each, by number."""
-    from exam_desk import notebook  # here, since `office look` answers sooner without it
     names = facts.candidate_names(rows)
     lines = (f"{number} {names.get(number, '')}: {note}" for number, note in notebook.notes(office).items())
     return "".join(f"{plain(line)}\n" for line in lines)

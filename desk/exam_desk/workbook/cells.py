@@ -24,7 +24,6 @@ MOST_SHEETS, MOST_ROW, MOST_COLUMN = 500, 1_048_576, 16_384
 MOST_MERGED = 200_000  # rows that merged cells cover, in all
 MOST_DEPTH, MOST_QUIET = 256, 4 << 20  # elements in each other, bytes without a tag
 MOST_TAGS = 6_000_000  # in all parts
-PIECE = 1 << 16  # bytes that are looked at together
 CELL = "http://schemas.openxmlformats.org/spreadsheetml/2006/main c"
 OPEN_AND_SAVE = "open it in a spreadsheet and save it again"
 PASSWORD = "it has a password: save it without one"
@@ -161,7 +160,7 @@ class Parts:
         parser.StartElementHandler, parser.EndElementHandler = start, lambda _: around.pop()
         parser.StartDoctypeDeclHandler = refuse_type
         with self.archive.open(name) as stream:
-            while piece := stream.read(PIECE):
+            while piece := stream.read(1 << 16):
                 before = self.tags
                 parser.Parse(piece)
                 quiet = quiet + len(piece) if self.tags == before else 0

@@ -90,7 +90,7 @@ def is_called_list(name: str) -> bool:
     return LISTS.match(folded(name)) is not None
 
 
-def match_header(kind: str, row: int, cells: Mapping[int, Cell], given: Given, names: Sequence[str] = ()) -> Header:
+def match_header(kind: str, row: int, cells: Mapping[int, Cell], given: Given, names: Sequence[str]) -> Header:
     """A row as the header of a kind, or of some of its columns."""
     heads = {column: folded(text) for column, text in text_cells(cells).items()}
     header = Header(row, {}, {})

@@ -49,7 +49,7 @@ def book_of(data: bytes, name: str, encoding: str | None = None) -> Book:
     return book
 
 
-def is_zip(data: bytes, encoding: str | None = None) -> bool:
+def is_zip(data: bytes, encoding: str | None) -> bool:
     """Whether a file is a zip or else a text; raises `Trouble` where it is neither. A text has no zeros but in UTF-16,
     or in an encoding that the officer names."""
     if data.startswith(OLD):

@@ -204,7 +204,7 @@ def chosen(job: Job, kind: str, tables: list[Table]) -> list[Table]:
 
 def keep_codes(job: Job, candidates: list[Record]) -> None:
     """A candidate without a code keeps the one that the office has. One line tells of all others of a sheet."""
-    have = {number.decode(): code.decode() for number, code in job.known.codes.items() if code}
+    have = {number.decode(): code.decode() for number, code in job.known.codes.items()}
     for record in candidates:
         if not record.fields[2] and record.fields[0] in have:
             record.fields[2] = have[record.fields[0]]
@@ -227,13 +227,13 @@ def check_files(job: Job, records: Mapping[str, list[Record]], progress: Progres
             files.Record(line, tuple(map(encoded, record.fields)), True) for line, record in enumerate(rows, FIRST))
         for sort, mistake in [(sort, each) for sort, lines in zip(("mistake", "note"), found) for each in lines]:
             what = mistake.column
-            if mistake.line < FIRST or what == "file":
+            if mistake.line < FIRST:
                 job.report.add(sort, f"{kind}: {mistake.text}")
                 continue
             record = rows[mistake.line - FIRST]
             column = record.columns[header.index(what)] if what in header else None
             place, text = place_name(record.sheet, record.row, column), f"{mistake.what}: {mistake.text}"
-            is_told = column is None and what in header and not record.fields[header.index(what)]  # of the header
+            is_told = what in header and not record.fields[header.index(what)]  # of the cell, or of the header
             if what == "row":  # it speaks of another line of the file
                 text = re.sub(r"\bline ([0-9]+)\b", lambda line: place_name(*rows[int(line[1]) - FIRST][:2]),
                               mistake.text)

@@ -212,7 +212,7 @@ class Table(Headed):
         if value.text != (cell.shown if cell else ""):
             why = f" ({value.why})" if value.why else ""
             group = name if name == "date" else name + value.why.split(",")[0]
-            self.change(row, place, f"{name} {shown_of(cell)} became {value.text or '(empty)'}{why}", group)
+            self.change(row, place, f"{name} {shown_of(cell)} became {value.text}{why}", group)
         if value.note:
             self.note(row, place, f"{name} {value.text} {value.note}", name + value.note)
         return value.text

@@ -19,7 +19,6 @@ MOST_PLACES = 5  # of lines that stand together
 MOST_TEXTS = 3  # of one kind that have a line each
 MOST_VALUES = 50_000  # that are kept, lest they are read again
 PARTICULAR = re.compile(r"[0-9]|\b[A-Z][A-Z-]+\b")  # in words that are numbers, dates or codes
-NAMES_PAPERS = HEADER_WORDS["entries", "paper"] - {"code"}
 Progress = Callable[[str], None]
 
 
@@ -249,7 +248,7 @@ class Headed:
                     "counts"
             is_second = name in [other for at, other in self.marks.items() if at < place]
             return f"the {'paper' if self.kind == 'entries' else 'feature'} {name} has two columns" if is_second else ""
-        if self.kind in MARKED and place in self.crossed and place in crosses and self.marked in self.header.columns:
+        if place in self.crossed and place in crosses:
             return f"{self.crossed[place]} has crosses beside the column {self.marked}: keep one of the two"
         if self.kind in MARKED and place in crosses and folded(said) in NEAR:
             return f"{said!r} has crosses and is no feature: call it {NEAR[folded(said)]} if that is meant, or " \
@@ -263,7 +262,7 @@ class Headed:
             what = f"{said!r} is no paper that is known" if cell else "the column has no header"
             where = place_name(self.sheet, crosses[place], place)
             return f"{what}, and has crosses ({where}): correct the code, or delete the column"
-        if self.paper and folded(said) in NAMES_PAPERS:
+        if self.paper and folded(said) in HEADER_WORDS["entries", "paper"] - {"code"}:
             return f"{shown_of(cell)!r} names papers, as the sheet does: delete the column, or call the sheet Entries"
         may_be_code = files.is_code(said.encode("utf-8", "replace")) or folded(said) in SHORT_FEATURES
         if self.kind == "candidates" and (self.job.paper(cell) or place in crosses and may_be_code):

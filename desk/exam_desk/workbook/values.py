@@ -71,7 +71,6 @@ UNREAD = {  # the kinds that no column takes
 REFUSED = UNREAD | {  # what is said of a kind where a column does not take it
     "date": f"a spreadsheet made a date of it: {AGAIN}", "time": f"a spreadsheet made a time of it: {AGAIN}",
     "bool": f"a spreadsheet made TRUE or FALSE of it: {AGAIN}", "percent": f"it is a percentage: {AGAIN}"}
-EMPTY = Cell("text", "", "")
 MAY_BE_EMPTY = {"requires", "features", "needs", "extra", "reserved", "code"}  # columns in which that is a value
 STRUCK = "is struck out: delete the row, or take the line away if it counts"
 
@@ -102,7 +101,7 @@ class Value(NamedTuple):
 
 def read_value(column: str, cell: Cell | None, way: Way) -> Value:
     """The value of a cell, or of an empty one, as a column of the import files asks for it; raises `Wrong`."""
-    found = cell or EMPTY
+    found = cell or Cell("text", "", "")
     read, kinds = READERS[column]
     if len(found.text) > MOST_LETTERS:
         raise Wrong(f"has {len(found.text):,} letters; at most {MOST_LETTERS} are looked at")
@@ -267,7 +266,7 @@ def read_date(column: str, cell: Cell, text: str, way: Way) -> Value:
     return value
 
 
-def day_value(text: str, more: str = "") -> Value:
+def day_value(text: str, more: str) -> Value:
     """A date that is not written as the files have it, told with its weekday."""
     try:
         return Value(text, long_day(text) + more)

@@ -21,7 +21,6 @@ TEXTS = ("s", "str", "inlineStr")  # shared, the result of a formula, in the cel
 TRUE = ("1", "true")
 PENDING = Cell("pending", "", "", True)  # a formula that nobody has computed
 Letters = tuple[str, bool]  # a text in which nothing is left to be turned, and whether a part of it is struck out
-Look = tuple[str, bool]  # the number format of a style, and whether it strikes out
 
 
 def read_xlsx(archive: zipfile.ZipFile) -> Book:
@@ -189,8 +188,8 @@ class Reader:
         return found if is_plain else found and found._replace(formula=formula, struck=struck or all_struck)
 
 
-def looks_of(styles: Element) -> list[Look]:
-    """How the cells of each style look. A number without a format of its own is one that every spreadsheet knows."""
+def looks_of(styles: Element) -> list[tuple[str, bool]]:
+    """Of each style the number format, and whether it strikes out. A number without a format is one of the usual."""
     forms = BUILT_IN | {int(form.attrib["numFmtId"]): form.attrib["formatCode"]
                         for form in styles.iterfind("{*}numFmts/{*}numFmt")}
     struck = [is_struck(font) for font in styles.iterfind("{*}fonts/{*}font")]

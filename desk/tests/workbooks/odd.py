@@ -172,7 +172,7 @@ case("codes-in-brackets", xlsx(sheet("Halls", HALLS, [("n", "101", "[Red]0"), "A
 case("number-without-zeros", xlsx(candidates([("n", "1", "#"), *ADA[1:]])), files={"candidates": [ADA_LINE]},
      told=[["Candidates!A2", "number 1 became 0000001"]])
 case("zero-with-a-zero", xlsx(sheet("Arrangements", ARRANGEMENTS, ["0000001", "quiet", ("n", "0", "0")])),
-     files={"arrangements": ["0000001,quiet,0"]}, told=[["", "0 mistakes, 0 changes"]])
+     files={"arrangements": ["0000001,quiet,0"]}, told=[["", "0 mistakes, 0 changes"], ["", "NOTE: arrangements: no candidates are known"]])
 case("text-under-numbers", xlsx(candidates([("t", "0000001", "0"), *ADA[1:]])), files={"candidates": [ADA_LINE]}, quiet=True)
 case("afternoon", xlsx(sheet("Sessions", SESSIONS, ["S1", "2027-06-01", ("n", "0.60416666666666663", TIME)])),
      files={"sessions": ["S1,2027-06-01,14:30"]}, quiet=True)
@@ -184,3 +184,52 @@ case("total-above-a-note", xlsx(sheet("Openings", OPENINGS, ["S1", "A", 10, "12:
 case("called-sum", xlsx(candidates(["0000001", "Sum", "CODE0001"])), files={"candidates": ["0000001,Sum,CODE0001"]}, quiet=True)
 case("wrong-code", xlsx(candidates(["0000001", "Ada Lin", "SHORT"])), 1, only=True, mistakes=[["Candidates!C2"]],
      told=[["", "1 mistake, 0 changes, 0 notes"]])
+case("columns-of-half-a-kind", xlsx(sheet("Plan", ["Termin", "Raum"], ["S1", "A"])), 1, only=True, args=["--columns", "{here}/columns.toml"],
+     beside={"columns.toml": '[openings]\nsession = "Termin"\nhall = "Raum"\n'},
+     mistakes=[["Plan!1", f"the column {name} is missing"] for name in ("desks", "until", "reserved")])
+case("paper-called-like-a-session", xlsx(sheet("Sessions", SESSIONS, ["S1", "2027-06-01", "09:00"]), sheet("Papers", PAPERS, ["S1", "M", "S1", 90, "-"]),
+     sheet("Openings", OPENINGS, ["S1", "A", 10, ("n", "46539.5", "dd/mm/yyyy hh:mm"), "no"])), files={
+         "sessions": ["S1,2027-06-01,09:00"], "papers": ["S1,M,S1,90,-"], "openings": ["S1,A,10,12:00,no"]})
+case("header-alone", xlsx(candidates()), 1, mistakes=[["", "no sheet has rows of one of the seven kinds"]],
+     told=[["Candidates", "has no candidates; no file of them is written"]])
+case("empty-sheet", xlsx(candidates(ADA), sheet("Halls")), files={"candidates": [ADA_LINE]}, quiet=True)
+
+# which sheets are meant
+PUPILS = sheet("Pupils", CANDIDATES, BO)
+case("sheet-named", xlsx(candidates(ADA), PUPILS), files={"candidates": [ADA_LINE]}, args=["--sheet", "Candidates"],
+     told=[["Pupils", "is not read, as you said"]])
+case("sheet-named-and-hidden", xlsx(candidates(ADA), PUPILS | {"state": "hidden"}), files={"candidates": [BO_LINE]}, args=["--sheet", "Pupils"])
+case("sheets-that-are-not-there", xlsx(candidates(ADA)), 1, args=["--sheet", "Pupils", "--leave", "candidates"],
+     mistakes=[["", "there is no sheet Pupils; there are: Candidates"], ["", "there is no sheet candidates;"]])
+case("columns-of-sheets", xlsx(sheet("Pupils 2027", ["Nr", *CANDIDATES[1:]], ADA), sheet("Alumni", ["Nr", *CANDIDATES[1:]], BO), sheet("Plan", CANDIDATES[:2], BO[:2])),
+     files={"candidates": [ADA_LINE]}, args=["--columns", "{here}/columns.toml"],
+     beside={"columns.toml": '[candidates]\nsheet = "PUPILS-2027"\nnumber = "Nr"\n'}, told=[["Alumni", "not read"], ["Plan", "not read"]])
+case("columns-of-another-file", b"Nr,name,code\n0000001,Ada Lin,CODE0001\n", suffix="csv", files={"candidates": [ADA_LINE]},
+     args=["--columns", "{here}/columns.toml"], beside={"columns.toml": '[candidates]\nnumber = "Nr"\n[halls]\nsheet = "Rooms"\n'})
+case("columns-of-no-paper", xlsx(sheet("Papers", PAPERS, ["MA-1", "Maths", "S1", 90, "-"]), sheet("Entries", ["number"], ["0000001"])), 1, only=True,
+     args=["--columns", "{here}/columns.toml"], beside={"columns.toml": '[entries]\npaper = { always = "XX-9" }\n'},
+     mistakes=[["Entries!2", "paper 'XX-9': is not among the papers"]])
+case("zeros-of-no-candidate", xlsx(candidates(ADA), sheet("Entries", ENTRIES, [1, "MA-1"], [9, "MA-1"])), 1, only=True,
+     mistakes=[["Entries!A3", "is not among the candidates"]])
+case("notes-below-papers", xlsx(sheet("Papers", PAPERS, ["MA-1", "Maths", "S1", 90, "-"], [None, None, None, None, None, "as of May"])),
+     files={"papers": ["MA-1,Maths,S1,90,-"]}, told=[["Papers!F3", "stands beside empty columns"]])
+case("sheet-called-as-a-header", xlsx(TWO_PAPERS, sheet("Paper", ["number", "name"], ADA[:2])),
+     files={"papers": ["MA-1,Maths,S1,90,-", "FR,French,S1,60,-"], "candidates": ["0000001,Ada Lin,"]})
+
+# columns that are not read, and such as must be looked at
+case("columns-beside-features", xlsx(TWO_PAPERS, sheet("Halls", [*HALLS, "screen", "Booked", "Laptops", "MA-1"], ["A", "Hall A", "quiet", "big", "x", "3", "x"])),
+     files={"papers": ["MA-1,Maths,S1,90,-", "FR,French,S1,60,-"], "halls": ["A,Hall A,quiet"]},
+     told=[[f"Halls!{letter}1", "is not read"] for letter in "DEFG"])
+case("columns-beside-candidates", xlsx(sheet("Candidates", [*CANDIDATES, "Laptop", "status", "Exam"], [*ADA, "x", "Withdrawn", "FR"])),
+     files={"candidates": [ADA_LINE]}, told=[[f"Candidates!{letter}1", "is not read"] for letter in "DEF"])
+case("features-missing", xlsx(sheet("Halls", HALLS[:2], ["A", "Hall A"])), 1, only=True, mistakes=[["Halls!1", "the column features is missing"]])
+case("crosses-beside-one-value", xlsx(sheet("Halls", [*HALLS[:2], "screen"], ["A", "Hall A", "x"])), 1, only=True,
+     args=["--columns", "{here}/columns.toml"], beside={"columns.toml": '[halls]\nfeatures = { always = "quiet" }\n'},
+     mistakes=[["Halls!C1", "screen has crosses beside the column features"]])
+case("rooms-without-features", xlsx(candidates(ADA), sheet("Rooms of 2026", HALLS[:2], ["A", "Hall A"])), files={"candidates": [ADA_LINE]},
+     told=[["'Rooms of 2026'", "is not read: no row is the header"]])
+case("entries-with-two-names", xlsx(TWO_PAPERS, sheet("Entries", ["number", "Vorname", "Nachname", "paper"], ["0000001", "Ada", "Lin", "MA-1"])),
+     files={"papers": ["MA-1,Maths,S1,90,-", "FR,French,S1,60,-"], "entries": ["0000001,MA-1"]},
+     told=[[f"Entries!{letter}1", "is not read"] for letter in "BC"])
+case("column-in-capitals-and-hidden", xlsx(sheet("Candidates", [*CANDIDATES, "FORM"], [*ADA, "7a"], hidden_columns=[4])), files={"candidates": [ADA_LINE]},
+     told=[["Candidates!D1", "the column 'FORM' is not read"]])
