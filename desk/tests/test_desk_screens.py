@@ -421,7 +421,8 @@ class TestHandbook(DeskSchool):
         found = []
         for block in re.split("\n\n+", re.sub("^#+ (.+)\n", r"\n\1\n\n", markdown, flags=re.M)):
             if not block.startswith("    "):
-                block = re.sub(r"^(- |[0-9]+\. |\| |\|---.*)| \|( |$)", " ", block, flags=re.M)
+                of_lines = r"^\| |^\|---.*| \|( |$)" if block.startswith("|") else r"^(- |[0-9]+\. )"
+                block = re.sub(of_lines, " ", block, flags=re.M)
                 block = re.sub(r"\[([^][]+)\]\([^()]+\)", r"\1", re.sub(r"`([^`]+)`|\*+", r"\1", block))
             found.append(block)
         return "\n".join(found)

@@ -215,7 +215,8 @@ def signatures(reading: Reading, session: str, asked: Collection[str] = ()) -> s
     know."""
     papers, heading = paper_names(reading.rows, CODE), school(reading.office, "<br>") + when(reading, session)
     return of_desks(reading, session, "Lists to sign", (
-        table(SIGNED, [[sits.desk, number, text(name), papers[sits.paper], ""] for number, name, sits in there],
+        table(opening.hall, SIGNED,
+              [[sits.desk, number, text(name), papers[sits.paper], ""] for number, name, sits in there],
               html("{}<br><b>{}</b>", heading, text(opening.title)))
         for opening, there in lists.halls(reading, session, asked)), "doors")
 
