@@ -17,9 +17,9 @@ from exam_desk.words import plain
 
 STYLES = pathlib.Path(__file__).with_name("styles")
 DOCUMENT = ('<!doctype html>\n<html lang="en"><head><meta charset="utf-8">'
-            '<meta name="viewport" content="width=device-width"><title>{}</title>\n'
-            '<style>@page {{ @bottom-left {{ content: "{}" }} }}{}</style></head>\n<body>\n'
-            '<header class=screen><h1>{}</h1>, {}</header>\n{}</body></html>\n')
+            '<meta name="viewport" content="width=device-width"><title>{0}</title>\n'
+            '<style>@page {{ @bottom-left {{ content: "{2}" }} }}{3}</style></head>\n<body>\n'
+            '<header class=screen><h1>{0}</h1>, {1}</header>\n{4}</body></html>\n')
 HEAD = re.compile("(?:([a-z]+):)?(.*)")  # of a column: its kind, if it has one, and its words
 SECOND = ", second sitting of {}"
 # How a paper is named: forms of its code and title, and for a second sitting of the code that people know, behind them.
@@ -91,8 +91,7 @@ def document(reading: Reading, title: str, body: Markup, *names: str, of: str = 
     printed = f"printed {reading.office.now():%Y-%m-%d %H:%M:%S}, state {reading.mark}"
     quoted = re.sub(r"[^\w ,.:-]", lambda sign: rf"\{ord(sign[0]):x} ", f"{title}, {printed}")  # as a text of a style
     styles = "".join(f"\n{(STYLES / f'{name}.css').read_text('utf-8')}" for name in ("page", *names))
-    headed = f"{title} {of}".strip()
-    return str(html(DOCUMENT, headed, Markup(quoted), Markup(styles), headed, printed, body))
+    return str(html(DOCUMENT, f"{title} {of}".strip(), printed, Markup(quoted), Markup(styles), body))
 
 
 def school(office: Office, behind: str = "") -> Markup:
