@@ -217,7 +217,7 @@ def signatures(reading: Reading, session: str, asked: Collection[str] = ()) -> s
     return of_desks(reading, session, "Lists to sign", (
         table(opening.hall, SIGNED,
               [[sits.desk, number, text(name), papers[sits.paper], ""] for number, name, sits in there],
-              html("{}<br><b>{}</b>", heading, text(opening.title)))
+              html("{}<br><h2>{}</h2>", heading, text(opening.title)))
         for opening, there in lists.halls(reading, session, asked)), "doors")
 
 
