@@ -82,7 +82,7 @@ class Kinds(unittest.TestCase):
         self.assertEqual(title, "2 sit at other times (4 sittings)")
         with mock.patch.object(papers, "told", lambda *_: [""]):
             page = papers.changes(mock.MagicMock(), mock.MagicMock(office=self.office), changes, "Since 1")
-        self.assertIn("<b>2 sit at other times (4 sittings)</b>", page)
+        self.assertIn("<h2>2 sit at other times (4 sittings)</h2>", page)
         halls = [effects.Met(session, "and S3 in A", "") for session in ("S1", "S2")]
         self.assertEqual(effects.title(effects.HALLS, halls),
                          "2 halls have candidates of two sessions at one time")

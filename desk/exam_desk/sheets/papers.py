@@ -309,9 +309,8 @@ def changes(before: Reading, after: Reading, found: Iterable[Change], since: str
     tables = [table(telling.KINDS[kind][1], TOLD, [told(each, papers, halls) for each in part],
                     html("<h2>{}</h2>", telling.counted(telling.KINDS[kind], [each.number for each in part])))
               for kind, part in telling.by_kind(found).items()]
-    body = html("<h1>Who must be told</h1>\n<p>{}{}</p>\n{}", school(after.office, " &middot; "), since,
-                joined(tables) or Markup("<p>Nobody.</p>\n"))
-    return document(after, "Changes", body, "paper", "changes", of=since)
+    above = html("<h1>Who must be told</h1>\n<p>{}{}</p>\n", school(after.office, " &middot; "), since)
+    return document(after, "Changes", above + (joined(tables) or Markup("<p>Nobody.</p>\n")), "paper", "changes")
 
 
 def told(change: Change, papers: Mapping[str, Markup], halls: Mapping[str, Markup]) -> list[object]:
