@@ -138,7 +138,7 @@ class TestWhatCouldHelp(SmallSchool):
         self.assertEqual(self.remedies(), [])
         words = self.browser.words("/sessions/S1")
         self.assertIn("No hall of the office has all that 1 of these candidates needs: computer, quiet .", words)
-        self.assertIn("computer, quiet, 25 % extra time", words)
+        self.assertIn("computer, quiet , 25 % extra time", words)
         self.assertNotIn("What could help", words)
 
     def test_who_has_what_no_hall_has_is_not_counted(self):
