@@ -180,7 +180,7 @@ class Verdicts(sample.SampleSchool):
 
     def test_a_folder_in_the_place_of_a_file(self):
         os.mkdir(os.path.join(self.folder, "halls.csv"))
-        self.assertIn("halls.csv is no file\n", self.refused("check-files", "."))
+        self.assertIn("halls.csv: is no file, but a folder", self.refused("check-files", "."))
 
     def test_files_at_random(self):
         with tempfile.TemporaryDirectory() as folder, random_files.schools(folder, SEED) as schools:
