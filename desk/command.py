@@ -91,11 +91,16 @@ def given(parser: Parser, *words: str) -> argparse.Namespace:
 
 def with_reason(words: list[str]) -> list[str]:
     """The words of a command that ends with a reason; for a `-` the line of standard input that has it, so that it is in
-    no history of a shell."""
+    no history of a shell. Raises `Trouble` where no line comes in, or several."""
     if words[-1] == "-":
-        if sys.stdin.isatty():
+        is_asked = sys.stdin.isatty()
+        if is_asked:
             say("reason or answer, in one line: ")
-        words[-1] = sys.stdin.buffer.readline(MOST_LINE).decode("utf-8", "surrogateescape").rstrip("\r\n")
+        given = sys.stdin.buffer.readline(MOST_LINE) if is_asked else sys.stdin.buffer.read(MOST_LINE)
+        first, _, rest = given.decode("utf-8", "surrogateescape").partition("\n")
+        if not given or rest.strip():
+            raise Trouble(f"a reason or an answer is one line; {'several' if given else 'none'} came in: nothing is done")
+        words[-1] = first.rstrip("\r")
     return words
 
 

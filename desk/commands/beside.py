@@ -5,7 +5,7 @@ from typing import TYPE_CHECKING
 
 import command
 from exam_desk.office import Trouble
-from exam_desk.words import few
+from exam_desk.words import few, parted
 
 if TYPE_CHECKING:
     from collections.abc import Collection, Iterator
@@ -73,7 +73,7 @@ def numbers(words: list[str]) -> list[str]:
     text = files.read("-", command.warn)
     if len(text) > files.MOST_BYTES:
         raise Trouble(f"more than {files.MOST_BYTES} bytes of numbers")
-    return text.decode("utf-8-sig", "replace").replace(",", " ").split()
+    return parted(text.decode("utf-8-sig", "replace"))
 
 
 @command.named("""Keeps notes on candidates, such as rest breaks, a scribe, a dictionary: notes [FILE]

@@ -71,7 +71,7 @@ Lodges an appeal at the counter, for a candidate who is there: lodge NUMBER SESS
 
 It goes the candidates' way, over HTTP, with the candidate's code from the file, through `keep` where that serves. It
 makes the reference, D1, D2 and so on, and prints it with the state. Then decide it: `office decide 0001051 D1 ..`.
-With - as REASON it reads the reason from standard input: so it is in no history and in no list of processes.
+With - as REASON it reads a line from standard input: so the reason is in no history and in no list of processes.
 """, changes=True)
 def lodge(parser: command.Parser) -> command.Plan:
     from commands import programs

@@ -27,11 +27,11 @@ With the entries of a file, whose header is number,paper: office {0} --list FILE
   `office back 1` takes all of it back.
 """
 ALL_HELP = """
-Each entry of a candidate who leaves, in the same way: office withdraw NUMBER --all
+Each entry that is to come of a candidate who leaves, in the same way: office withdraw NUMBER --all
 """
 DECIDE_HELP = """
-With - as the answer `office` reads it from standard input: so it is in no history, and in the list of processes only
-while the program decides.
+With - as the answer `office` reads a line from standard input: so the answer is in no history, and in the list of
+processes only while the program decides.
 """
 HELP = {"withdraw": LIST_HELP + ALL_HELP, "reinstate": LIST_HELP, "decide": DECIDE_HELP}  # behind that of the program
 MOST_NAMED = 20  # of those who lose a desk, move or sit otherwise

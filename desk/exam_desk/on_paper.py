@@ -14,14 +14,15 @@ NOTED = "noted"  # beside the lines of what is printed: by whom, how many, and w
 SHOWN = ["name", "paper", "date", "start", "finish", "needs", "extra", "misses", "note"]
 SCHOOL, OF = "school", ": "  # where others have a code; between a code and what is shown of it
 OF_SCHOOL, OF_ROWS = f"{SCHOOL}{OF}name", f"{{}}{OF}rows"  # what lines share of the school, and of a hall
-ALL = "doors poster cards chart board counts slips"  # papers, by the commands that print them
-BY_HALL = ALL.split()[:4]
+ALL = "doors signatures poster cards chart board counts slips"  # papers, by the commands that print them
+BY_HALL = ALL.split()[:5]
 ON = {  # which papers show what
-    "hall": ALL, "left": "doors poster cards chart board counts", "desk": "doors poster cards chart board slips",
-    "name": "doors poster cards chart board slips", "paper": "doors cards chart counts slips", "date": ALL,
-    "start": ALL, "finish": "doors counts slips", "needs": "doors slips", "extra": "doors slips",
-    "misses": "doors slips", "note": "doors slips", "paper title": "doors cards counts slips", "hall title": ALL,
-    "desks": "doors chart", "open until": "doors", "rows": "chart", OF_SCHOOL: "doors poster chart board counts slips"}
+    "hall": ALL, "left": "doors signatures poster cards chart board counts",
+    "desk": "doors signatures poster cards chart board slips", "name": "doors signatures poster cards chart board slips",
+    "paper": "doors signatures cards chart counts slips", "date": ALL, "start": ALL, "finish": "doors counts slips",
+    "needs": "doors slips", "extra": "doors slips", "misses": "doors slips", "note": "doors slips",
+    "paper title": "doors cards counts slips", "hall title": ALL, "desks": "doors chart", "open until": "doors",
+    "rows": "chart", OF_SCHOOL: "doors signatures poster chart board counts slips"}
 Papers = dict[str, list[str]]  # which are out of date, each with its halls; none where it is of the whole session
 
 

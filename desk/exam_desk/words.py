@@ -30,6 +30,11 @@ def few(names: Sequence[str], most: int = 3, between: str = ", ") -> str:
     return between.join(names[:most]) + (f" and {rest:,} more" if rest > 0 else "")
 
 
+def parted(numbers: str) -> list[str]:
+    """Numbers that somebody typed one behind the other, with spaces, commas, semicolons or line ends between them."""
+    return numbers.translate({ord(","): " ", ord(";"): " "}).split()
+
+
 def features(mask: int) -> list[str]:
     return [name for place, name in enumerate(FEATURES) if mask >> place & 1]
 

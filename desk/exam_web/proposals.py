@@ -258,7 +258,8 @@ def rehearse(plan: Plan, here: Desk, who: Office) -> None:
             plan.stage = COMPARING
             after = View(here.office, rehearsal.after)
             plan.lines = plan.look(before.reading, after.reading)
-            plan.effects = Effects(before, after)
+            plan.effects = met = Effects(before, after)
+            plan.lines = [*plan.lines, *effects.notes(before.reading, after.reading, effects.groups(met), False)]
             plan.made_from, plan.promised = before.name, after.name
 
 
@@ -274,7 +275,8 @@ def carry_out(plan: Plan, here: Desk, who: Office) -> None:
     except Stale:
         since = plan.since
         rehearse(plan, here, who)
-        plan.moved_on = [line for line in logbook.last_lines(who) if line[0] >= since][-MOST_LINES:]
+        plan.moved_on = [line for line in logbook.last_lines(who) if line[0] >= since
+                         and line[3] not in (logbook.BEGINS, logbook.STEP)][-MOST_LINES:]
         return
     plan.take(who, carried.answers)
     plan.copy, plan.as_promised = carried.copy or "", carried.as_promised is not False

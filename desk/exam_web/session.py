@@ -15,7 +15,7 @@ from exam_desk.notebook import Rows
 from exam_desk.overlaps import of_day
 from exam_desk.reading import Member
 from exam_desk.sheets import papers, slips
-from exam_desk.words import clock
+from exam_desk.words import clock, parted
 from exam_web.desk import AT_ONCE, View, desk, office, once, sittings, sums, view
 from exam_web.forms import Form, Page, Wrong, at_field, attached, checked, lead, styled, tell_papers, whole
 from exam_web.proposals import APPEALS, PLANS, Plan, command, features, import_step
@@ -150,7 +150,7 @@ def draw(code: str) -> Response:
 def note_absent(code: str) -> Response:
     """Notes who is named or newly ticked; who was shown and is not ticked was there. So what others noted stays."""
     shown, ticked, was = Session(code), *(set(request.form.getlist(name)) for name in ("absent", "was"))
-    typed = request.form.get("numbers", "").replace(",", " ").split()
+    typed = parted(request.form.get("numbers", ""))
     with at_field(shown.page, "absent", "numbers"):
         found = notebook.note_absent(office(), view().reading, code, [*sorted(ticked - was), *typed], was - ticked,
                                      "nobody" in request.form)

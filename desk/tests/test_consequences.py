@@ -209,16 +209,16 @@ class Told(sample.SampleSchool):
         words = ["withdraw", "0001306", "LAT"]  # sits MA-2 instead; both in the same hall, where 13 others move up
         would = self.office("what-if", *words)
         said = "1 session has printed papers that are out of date"
-        self.assertIn(f"{said}\n  MON-AM (doors, poster, cards of AULA; board, counts, slips): afterwards `office printed MON-AM --look`\n", would)
+        self.assertIn(f"{said}\n  MON-AM (doors, signatures, poster, cards of AULA; board, counts, slips): afterwards `office printed MON-AM --look`\n", would)
         lines = self.told(*words)
-        self.assertEqual(lines[0], f"{said}: MON-AM (doors, poster, cards of AULA; board, counts, slips)")
+        self.assertEqual(lines[0], f"{said}: MON-AM (doors, signatures, poster, cards of AULA; board, counts, slips)")
         self.assertEqual(lines[-1], "`office changes 1; office printed MON-AM --look` lists them")
-        self.assertIn("to print again: doors, poster, cards of AULA; board, counts, slips\n", self.office("printed", "MON-AM", "--look"))
-        self.assertIn("TUE-AM (doors, poster, cards of AULA; board, slips)", "\n".join(self.told("name", "0001306", "Another Name")))
+        self.assertIn("to print again: doors, signatures, poster, cards of AULA; board, counts, slips\n", self.office("printed", "MON-AM", "--look"))
+        self.assertIn("TUE-AM (doors, signatures, poster, cards of AULA; board, slips)", "\n".join(self.told("name", "0001306", "Another Name")))
         self.assertNotIn("printed", "\n".join(self.told("back", "2", "--yes")))  # all is as on paper again
         lines = self.told("close-hall", "MON-AM", "GYM")
         [line] = [line for line in lines if "printed papers" in line]
-        halls = line.removeprefix(f"{said}: MON-AM (doors, poster, cards of ").partition(";")[0].split(", ")
+        halls = line.removeprefix(f"{said}: MON-AM (doors, signatures, poster, cards of ").partition(";")[0].split(", ")
         self.assertIn("GYM", halls)
         shown = self.office("printed", "MON-AM", "--look").splitlines()
         listed = [part for line in shown if line.startswith("to ") for part in re.findall(r"\b[A-Z0-9]{3,}\b", line)]
@@ -241,7 +241,7 @@ class Told(sample.SampleSchool):
         title = self.write("halls.csv", "hall,title,features\nGYM,Sports hall,step-free\n")
         self.assertIn("\n1 value of rows changed: GYM title Gymnasium -> Sports hall\n",
                       self.office("what-if", "import", "halls", title))
-        self.assertEqual(self.told("import", "halls", title), [f"{said} (doors, poster, cards of GYM; board, counts, slips)", listing])
+        self.assertEqual(self.told("import", "halls", title), [f"{said} (doors, signatures, poster, cards of GYM; board, counts, slips)", listing])
         self.assertEqual(self.told("open-hall", "MON-AM", "R12", "2", "14:00")[0],
                          "1 value of rows changed: MON-AM R12 reserved yes -> no")
 

@@ -69,7 +69,7 @@ class TestPrinting(DeskSchool):
         self.office("withdraw", "0001051", "CS-1")
         *moves, halls = self.office("printed", "MON-AM", "--look").splitlines()
         found = self.browser.words(self.PRINTED + "?piece").replace(" (new tab)", "")
-        self.assertIn("out of date: " + halls.removeprefix("to print again: doors, poster, cards of ").partition(";")[0] + " ", found)
+        self.assertIn("out of date: " + halls.removeprefix("to print again: doors, signatures, poster, cards of ").partition(";")[0] + " ", found)
         self.assertIn("PC1", halls)
         self.assertIn("And of the whole session: Slips for candidates, with desk numbers , Notice board by name ,", found)
         self.assertIn(f"{len(moves)} candidates are not as on paper", found)
@@ -129,8 +129,8 @@ class TestPrinting(DeskSchool):
 
     def test_a_rehearsal_says_which_printed_papers_would_be_out_of_date(self):
         """The halls that `office printed --look` names once it is done; nothing where nobody noted what is printed."""
-        line = ("Printed papers {} out of date: MON-AM (Invigilators' sheets, Posters for doors, Desk cards: "
-                "{}; Notice board by name, Copies of each paper, Slips for candidates, with desk numbers)")
+        line = ("Printed papers {} out of date: MON-AM (Invigilators' sheets, Lists for candidates to sign, Posters for "
+                "doors, Desk cards: {}; Notice board by name, Copies of each paper, Slips for candidates, with desk numbers)")
         rehearse = "/propose/withdraw", "/candidates/1051"
         page, _ = self.browser.post(*rehearse, number="0001051", paper="CS-1")
         self.assertNotIn("Printed papers", self.browser.words(page))
@@ -139,12 +139,18 @@ class TestPrinting(DeskSchool):
         shown = self.browser.words(page)
         self.browser.post(page + "/do", page)
         *_, again = self.office("printed", "MON-AM", "--look").splitlines()
-        halls = again.removeprefix("to print again: doors, poster, cards of ").partition(";")[0]
+        halls = again.removeprefix("to print again: doors, signatures, poster, cards of ").partition(";")[0]
         self.assertIn("PC1", halls.split(", "))
         self.assertIn(line.format("would be", halls), shown)
         self.assertIn(line.format("are", halls), self.browser.words(page))
         page, _ = self.browser.post(*rehearse, number="0001051", paper="PH-1")
         self.assertNotIn("Printed papers", self.browser.words(page))
+
+    def test_papers_of_a_hall_that_is_empty_now(self):
+        self.office("printed", "MON-AM")
+        self.office("close-hall", "MON-AM", "LIB")
+        self.assertIn("To take away, as nobody sits there now: Invigilators' sheets, Lists for candidates to sign, Posters "
+                      "for doors, Desk cards: LIB ", self.browser.words(self.PRINTED))
 
     def test_who_need_not_be_told_of_another_desk_number(self):
         """Where papers are out of date by it, the page leaves that open."""
@@ -282,7 +288,7 @@ class TestTheDay(DeskSchool):
         page = "/sessions/MON-AM"
         before = self.seats()
         self.assertIn(self.NOTHING_NOTED, self.browser.words(page))
-        self.browser.post(page + "/absent", page, numbers="1051, 0001119 ")
+        self.browser.post(page + "/absent", page, numbers="1051; 0001119 ")
         said = self.browser.words(page)
         self.assertIn("2 candidates are noted as absent in MON-AM", said)
         self.assertNotIn(self.NOTHING_NOTED, said)
@@ -330,8 +336,11 @@ class TestTheDay(DeskSchool):
         page = "/sessions/MON-AM"
         self.office("absent", "MON-AM", "0001051")
         self.assertNotIn("lacks them", self.browser.words(page))
-        self.office("withdraw", "0001051", "CS-1")
-        self.office("withdraw", "0001051", "LAT")
+        gone, _ = self.browser.post("/propose/withdraw", "/candidates/1051", number="0001051", paper=["CS-1", "LAT"])
+        for note in ("not in the list for the exam board any more: 0001051 of MON-AM",
+                     "who only did not come stays entered: `office absent MON-AM 0001051` notes it"):
+            self.assertIn(note, self.browser.words(gone))
+        self.browser.post(gone + "/do", gone)
         text, said = self.browser.get(page), self.browser.words(page)
         self.assertIn("so the list for the exam board lacks them: 0001051 ", said)
         self.assertNotIn("Nobody was absent", said)

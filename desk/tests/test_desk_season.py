@@ -109,7 +109,7 @@ class TestWhatNeedsAPerson(DeskSchool):
         self.assertNotIn("as on paper", self.browser.words("/"))
         for path in self.WHOLE:
             said, link = self.line(path, f"{len(moves)} candidates{begin}: ")
-            self.assertEqual(f"{said}; board, counts, slips", halls.removeprefix("to print again: doors, poster, cards of "))
+            self.assertEqual(f"{said}; board, counts, slips", halls.removeprefix("to print again: doors, signatures, poster, cards of "))
             self.assertEqual(link, "/sessions/MON-AM#print")
             self.assertNotIn("TUE-AM are not", self.browser.words(path))
         self.assertIn(f"{len(moves)} candidates are not as on paper", self.browser.words("/sessions/MON-AM/printed"))

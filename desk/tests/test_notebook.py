@@ -299,9 +299,9 @@ class Commands(sample.SampleSchool):
         self.office("close-hall", "MON-AM", "GYM")
         self.office("withdraw", "0001119", "CS-1")  # so that somebody in another hall has another desk
         *moves, again, last = self.office("printed", "MON-AM", "--look").splitlines()
-        self.assertEqual(last, "to take away, as nobody sits there now: doors, poster, cards, chart of GYM")
+        self.assertEqual(last, "to take away, as nobody sits there now: doors, signatures, poster, cards, chart of GYM")
         halls = {place for line in moves for place in re.findall(r"(?:: |-> )([A-Z]\w+) \d+(?= ->|,|$)", line)}
-        self.assertEqual(again, f"to print again: doors, poster, cards of {', '.join(sorted(halls - {'GYM'}))}; board, counts, slips")
+        self.assertEqual(again, f"to print again: doors, signatures, poster, cards of {', '.join(sorted(halls - {'GYM'}))}; board, counts, slips")
         self.assertIn("PC1", again)
 
     def test_the_log_and_the_notebook_say_who_noted_it(self):
@@ -377,11 +377,11 @@ class Commands(sample.SampleSchool):
                 (("open-hall", "MON-AM", "AULA", "17", "13:00"), "AULA: desks 16 -> 17", "doors, chart of AULA"),
                 (("rows", "AULA", "4", "down"), "AULA: rows 6 across -> 4 down", "chart of AULA"),
                 (("import", "halls", titles), "AULA: hall title Aula, main building -> Great hall",
-                 "doors, poster, cards, chart of AULA; board, counts, slips"),
+                 "doors, signatures, poster, cards, chart of AULA; board, counts, slips"),
                 (("import", "papers", paper), "LAT: paper title Latin -> Latin 1",
                  f"doors, cards of {of_latin}; counts, slips"),
                 (("school", "Hill"), "school: name - -> Hill",
-                 f"doors, poster of {of_all}; chart of AULA, PC1; board, counts, slips")):
+                 f"doors, signatures, poster of {of_all}; chart of AULA, PC1; board, counts, slips")):
             self.office("printed", "MON-AM")
             self.assertEqual(self.run_office("rows", "PC1", "6").stderr, "")  # there was no chart of it before
             self.assertEqual(self.office("printed", "MON-AM", "--look"), "the papers are up to date\n")

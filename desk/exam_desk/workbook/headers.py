@@ -18,9 +18,9 @@ KINDS = {name: kind for kind, names in {  # by the name of a sheet, as `folded`
     "papers": "papers exams subjects examinations prüfungen fächer",
     "halls": "halls rooms venues räume",
     "openings": "openings hallopenings roomopenings openhalls",
-    "candidates": "candidates students pupils learners prüflinge schüler",
+    "candidates": "candidates students pupils learners prüflinge schüler kandidaten",
     "arrangements": "arrangements accessarrangements nachteilsausgleich",
-    "entries": "entries registrations examentries anmeldungen"}.items() for name in names.split()}
+    "entries": "entries registrations examentries anmeldungen meldungen"}.items() for name in names.split()}
 WORDS = {  # of a column what else its header may say, as `folded`
     "number": "candidatenumber candidateno candidateid number no candno studentnumber studentid pupilnumber nummer "
               "candidate prüfungsnummer",
