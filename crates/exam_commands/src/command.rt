@@ -45,6 +45,7 @@ pub struct Decision {
 
 #[derive(Clone, Copy, Debug, PartialEq, Eq)]
 pub enum Outcome {
+    /// Grants the appeal, for its session alone.
     Grant,
     /// Grants an arrangement for later sessions too.
     Standing,

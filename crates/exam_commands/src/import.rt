@@ -13,7 +13,7 @@ use std::alloc::Global;
 use std::collections::BTreeMap;
 use std::marker::Model;
 
-/// The rows of an import file, in the order of the file.
+/// The rows of an import file, in the order of the file: at most 4,194,304, all of one kind.
 #[derive(Drop)]
 pub struct Import {
     kind: Kind,

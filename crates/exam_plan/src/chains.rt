@@ -37,7 +37,8 @@ fn widened(inward: &[HallSet], marked: HallSet, fresh: HallSet) -> HallSet
     next
 }
 
-/// Goes backwards from the free desks, layer by layer, up to a hall that fits the candidate: the number of hops.
+/// Goes backwards from the free desks, layer by layer, up to a hall that fits the candidate: the number of hops, or
+/// none if no such hall is reached.
 fn layer_until(
     problem: &Problem,
     plan: &Plan,
@@ -72,7 +73,8 @@ fn layer_until(
     Some(hops)
 }
 
-/// Searches for a chain from the candidate to a free desk: how many hops the least chain has, and its layers.
+/// Searches for a chain from the candidate to a free desk: how many hops the least chain has, and its layers. None if
+/// there is no chain.
 pub fn search_chain(
     problem: &Problem,
     plan: &Plan,

@@ -156,7 +156,7 @@ fn are_appeals_at_most(facts: &Facts, greatest: u32) -> bool
         .all(|(_, appeal)| are_needs_at_most(&appeal.subject, greatest))
 }
 
-/// Whether the needs that an appeal asks, if any, have no greater sum.
+/// Whether the needs that an appeal asks for, if any, have no greater sum.
 fn are_needs_at_most(subject: &Subject, greatest: u32) -> bool
     ensures { result ≡ spec.needs_at_most greatest subject.now }
 {

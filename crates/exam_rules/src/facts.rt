@@ -19,7 +19,8 @@ pub struct Facts {
     pub entries: BTreeMap<(Number, PaperCode), Entry>,
     pub arrangements: BTreeMap<Number, Arrangement>,
     pub appeals: BTreeMap<(Number, Reference), Appeal>,
-    /// The marks: the keys of appeals whose grant also holds for later sessions.
+    /// The marks: the keys of appeals that were granted for later sessions too. A superseded one keeps its mark,
+    /// without effect.
     pub standing: BTreeMap<(Number, Reference), ()>,
 }
 

@@ -49,6 +49,7 @@ pub struct Entry {
     pub live: bool,
 }
 
+/// What a candidate needs of a hall, and their extra time.
 #[derive(Clone, Copy, PartialEq, Eq)]
 pub struct Arrangement {
     pub needs: Features,

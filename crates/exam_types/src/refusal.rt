@@ -24,7 +24,7 @@ pub enum Refusal {
     /// There is no such session.
     #[error("no such session")]
     UnknownSession,
-    /// There is no such paper; of an attendance sheet: the session has no such paper.
+    /// There is no such paper. For an attendance sheet the paper must be one of the session.
     #[error("no such paper")]
     UnknownPaper,
     /// There is no such candidate, or a request does not show their access code.
