@@ -52,7 +52,7 @@ the name, so each knows which door is theirs. It shows no paper and no arrangeme
 Prints the lists that the candidates of a session sign: signatures SESSION [HALL ..] >signatures.html
 
 A page for a browser, on A4: each hall from a page of its own on, by desk number, name and paper of each candidate, and a
-box to sign. It shows no arrangement, no note and no finish, as the invigilators' sheets of `office doors` do.
+box to sign. It shows no arrangement, no note and no finish; the invigilators' sheets of `office doors` have these.
 """),
     "summary": ("session*", """\
 Prints a line for each session, with all its counts: summary [SESSION ..]

@@ -257,9 +257,9 @@ def rehearse(plan: Plan, here: Desk, who: Office) -> None:
         if not plan.refusal:
             plan.stage = COMPARING
             after = View(here.office, rehearsal.after)
-            plan.lines = plan.look(before.reading, after.reading)
+            looked = plan.look(before.reading, after.reading)
             plan.effects = met = Effects(before, after)
-            plan.lines = [*plan.lines, *effects.notes(before.reading, after.reading, effects.groups(met), False)]
+            plan.lines = [*looked, *effects.notes(before.reading, after.reading, effects.groups(met), False)]
             plan.made_from, plan.promised = before.name, after.name
 
 
