@@ -15,7 +15,7 @@ from exam_desk.words import plain
     office back 1 --yes    without a question, for scripts
 
 It names each appeal and each decision that is taken away: in the question, in the answer and in the log. If more came
-while the question stood, or somebody changed the office, it asks again. A copy of the office as it is now is kept
+while the question stood, or somebody changed the office, nothing is done. A copy of the office as it is now is kept
 first, so that can be taken back too. Notes, the name of the school, rows of desks, printed desks and absences stay as
 they are: it names those that were others in the copy.
 """, changes=True)
@@ -59,7 +59,7 @@ def open_hall(parser: command.Parser) -> command.Plan:
     if wrong := typed.wrong(names, row):
         parser.error("; ".join(wrong))
     step = second_sitting.imported("openings", [*row, "yes" if given.reserved else "no"])
-    return programs.Change([step], " ".join(["open-hall", *row]) + " --reserved" * given.reserved)
+    return programs.Change(steps=[step], title=" ".join(["open-hall", *row]) + " --reserved" * given.reserved)
 
 
 @command.named("""\
@@ -94,7 +94,8 @@ def name(parser: command.Parser) -> command.Plan:
     from commands import programs
     from exam_desk import coding
     given = command.given(parser, "number", "name")
-    return programs.Change([coding.renamed(command.office(), given.number, given.name)], f"name {given.number}")
+    step = coding.renamed(command.office(), given.number, given.name)
+    return programs.Change(steps=[step], title=f"name {given.number}")
 
 
 @command.named("""Lets a candidate with two papers at once sit one of them later: second-sitting NUMBER PAPER START HALL
@@ -120,8 +121,8 @@ def second_sitting(parser: command.Parser) -> command.Plan:
     with command.reading() as now:
         plan = (second_sitting.plan_back(now, given.number, given.paper) if given.undo else
                 second_sitting.plan(now, given.number, given.paper, given.start, given.hall))
-        return programs.Asked(plan.steps, plan.title, own=partial(second_sitting.lines, plan), question="do this?",
-                              done="done", is_agreed=given.yes, made_for=now.name)
+        return programs.Asked(steps=plan.steps, title=plan.title, own=partial(second_sitting.lines, plan),
+                              is_agreed=given.yes, made_for=now.name)
 
 
 @command.named("""Says what a change would do, and does not do it: what-if COMMAND ..

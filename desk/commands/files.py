@@ -139,7 +139,7 @@ def codes(parser: command.Parser) -> command.Plan:
     found = coding.coded(command.office(), None if given.new and not given.candidates else path, given.new)
     if given.at_once:
         step = Step(("import", "candidates", "rows with new codes"), files.file_of("candidates", found.rows))
-        return programs.Change([step], " ".join(["codes", *(["--new", *given.new] if given.new else [])]))
+        return programs.Change(steps=[step], title=" ".join(["codes", *(["--new", *given.new] if given.new else [])]))
     output = given.output or f"{os.path.splitext('candidates' if path in files.INPUTS else path)[0]}-with-codes.csv"
 
     def write() -> None:
@@ -228,9 +228,8 @@ def take(parser: command.Parser) -> command.Plan:
     if given.codes:
         coding.add_codes(command.office(), reading)
     print_lines(reading, given.all)
-    return programs.Asked(coding.steps_of(reading), f"take {os.path.basename(os.path.abspath(given.source))}",
-                       most=None if given.all else programs.MOST_NAMED, question="import all this?", done="imported",
-                       is_agreed=given.yes)
+    return programs.Asked(steps=coding.steps_of(reading), title=f"take {os.path.basename(os.path.abspath(given.source))}",
+                          most=None if given.all else programs.MOST_NAMED, is_agreed=given.yes)
 
 
 @command.named("""Makes an empty workbook for the facts of the office, with a sheet for each kind: template FILE.xlsx

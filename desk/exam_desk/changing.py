@@ -27,6 +27,7 @@ from exam_desk.office import Office, Stale, Trouble
 from exam_desk.words import Said, few
 
 PAUSE = 0.2  # seconds from one try to the next
+BLIND = 0.5  # seconds of tries where nobody is seen to have the file, who may have let go just then
 MOST_NAMED = 3  # sessions, candidates, papers or halls in the title of a change
 HELD = "SELECT (SELECT count(*) FROM candidate), (SELECT count(*) FROM session)"
 Tell = Callable[[str], None]  # hears which step begins
@@ -214,13 +215,15 @@ def unchanged(office: Office) -> Iterator[None]:
 
 
 def run_patiently(office: Office, step: Step, lock: FileIO | None = None, copy: str = "") -> running.Ran:
-    """Runs the program over the office, and tries again for some time while another command has the file; not where the
+    """Runs the program over the office, and tries again for some time while another process has the file; not where the
     step is there all the same, by the copy from before it."""
-    until = time.monotonic() + turns.PATIENCE
+    began = time.monotonic()
     while True:
         ran = running.run_over(office, office.path, *step.words, data=step.data, lock=lock)
+        waited = time.monotonic() - began
         with contextlib.suppress(OSError):  # what it looks at goes away just then
-            if refusals.number_of(ran.complaint) != 23 or time.monotonic() > until or not refusals.may_pass(office):
+            if refusals.number_of(ran.complaint) != 23 or waited > (
+                    turns.PATIENCE if refusals.is_busy(office) else BLIND):
                 return ran
             if copy and not copies.is_as_now(office, copy):
                 return ran

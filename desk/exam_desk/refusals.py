@@ -1,14 +1,11 @@
-"""What a refusal of the program means, in words; for an import with the line and the value; for 23 with its cause."""
+"""What a refusal of the program means, in words; for an import with the line and the value."""
 import contextlib
 import glob
 import os
 import re
-import shutil
-import stat
-import tempfile
 from collections.abc import Sequence
 
-from exam_desk import beside, files, turns
+from exam_desk import files
 from exam_desk.office import Office, NoOffice, Trouble
 from exam_desk.words import plain
 
@@ -50,8 +47,9 @@ OTHER = {
 }
 OF_A_FILE = [1, 2, 3, 4, 5, 6, 7, 20]  # refusals that rows of an import file can bring
 IDLE = ["entries", "arrangements"]  # their rows do nothing where the entry is withdrawn, or a grant is in force
-NO_CODE = ("`office codes FILE` fills in the codes that the office has, and new ones; for another name alone take "
-           "`office name NUMBER NAME`")
+CAUSES = ("you may not change it; nothing can be written in its folder or on its disk; it is a folder or a pipe; it has a "
+          "second name (a hard link, as some backups make: take a copy of it); a -journal of sqlite3 lies beside it; or it "
+          "was cut short or overwritten: `office back` lists copies")
 MOST_LINES = 5  # on one column of an import file
 WITHDRAWN = 9  # the refusal of a second withdrawal
 MAYBE_DONE = (22, 23)  # after these a command is there whole or not at all
@@ -73,7 +71,7 @@ def explained(office: Office, words: Sequence[str], complaint: str, data: bytes 
     sentence = SENTENCES.get(number or 0) or OTHER.get(answer)
     lines = [sentence] if sentence else []
     if number == 23:
-        lines = [f"{sentence}: {cause(office)}", WHOLE_OR_NOT]
+        lines += [holder(office) or CAUSES, WHOLE_OR_NOT]
     elif number == 22:
         lines.append(WHOLE_OR_NOT)
     elif number == WITHDRAWN and words[0] == "withdraw":
@@ -112,82 +110,23 @@ def mistakes_of(office: Office, words: Sequence[str], data: bytes | None, is_don
     with contextlib.suppress(Trouble):
         wrong, notes = mistakes.looked_through(kind, data, checking.office_knows(office), MOST_LINES)
         name = "" if path == kind else os.path.basename(path)
-        lines = [*checking.lines_on(name, *((notes, "NOTE: ") if is_done else (wrong, "")))]
-        return [*lines, NO_CODE] if mistakes.NO_CODE in wrong.counts else lines
+        return [*checking.lines_on(name, *((notes, "NOTE: ") if is_done else (wrong, "")))]
     return []
 
 
-def lasting_cause(office: Office) -> str | None:
-    """Why the file cannot be used, where waiting does not help; None where nothing of that kind is found."""
-    path = office.path
-    place = os.path.dirname(os.path.realpath(path))
-    try:
-        found = os.stat(path)
-    except OSError as fault:
-        return no_writing(path, place) or f"{path}: {fault.strerror}"
-    if not stat.S_ISREG(found.st_mode):
-        return f"{path} {beside.NO_FILE}"
-    if found.st_nlink > 1:
-        return f"{path} has a second name (a hard link, as some backups make): copy the file and take the copy"
-    if os.path.lexists(f"{path}-journal"):
-        return f"{path}-journal lies beside the file: sqlite3 was stopped in a change; open the file there, or move it"
-    for name in (path, path + "-wal"):
-        if os.path.exists(name) and not os.access(name, os.R_OK | os.W_OK):
-            owner = os.stat(name).st_uid
-            way = f": `chmod u+rw {name}`" * (owner == os.geteuid())
-            return f"no permission to change {name}; it belongs to {beside.user_name(owner)}{way}"
-    return no_writing(path, place) or damage(path)
-
-
-def no_writing(path: str, place: str) -> str | None:
-    try:
-        with tempfile.TemporaryFile(dir=place) as file:
-            file.write(bytes(1 << 18))
-            file.flush()
-    except OSError as fault:
-        return f"nothing can be written in the folder {place}: {fault.strerror}{beside.room(path, fault)}"
-    return None
-
-
-def damage(path: str) -> str | None:
-    """What is wrong with the head of the file, or of the file beside it."""
-    with open(path, "rb") as file:
-        head = file.read(32)
-        size = os.fstat(file.fileno()).st_size
-    page_size = {1: 65536}.get(int.from_bytes(head[16:18], "big"), int.from_bytes(head[16:18], "big"))
-    if size and (not head.startswith(b"SQLite format 3\0") or not page_size):
-        return f"{path} is no database, or its beginning was overwritten; `office back` lists copies"
-    if size and (size % page_size or size < page_size * int.from_bytes(head[28:32], "big")):
-        return f"{path} was cut short; `office back` lists copies"
-    return None
-
-
-def holder(office: Office) -> tuple[int, list[str]] | None:
-    """A process that has the file open, as a pair of its number and its words; None where none is to be seen."""
-    for path in glob.iglob("/proc/[0-9]*/fd/*"):  # of another user's process there is none
-        process = int(path.split("/")[2])
+def holder(office: Office) -> str:
+    """Which process has the file open, with its command; nothing where none is to be seen, as of another user."""
+    for path in glob.iglob("/proc/[0-9]*/fd/*"):
+        process = path.split("/")[2]
         with contextlib.suppress(OSError):
-            if process != os.getpid() and os.path.samefile(path, office.path):
+            if int(process) != os.getpid() and os.path.samefile(path, office.path):
                 with open(f"/proc/{process}/cmdline", "rb") as line:
-                    return process, line.read().decode("utf-8", "replace").rstrip("\0").split("\0")
-    return None
+                    words = line.read().decode("utf-8", "replace").replace("\0", " ").strip()
+                return f"process {process} has it ({words[:100]})"
+    return ""
 
 
-def may_pass(office: Office) -> bool:
-    """Whether waiting may help: another command has the file, and no `serve`, or nothing is to be seen."""
+def is_busy(office: Office) -> bool:
+    """Whether waiting may help: another process has the file, and it is no `serve`."""
     found = holder(office)
-    return "serve" not in found[1] if found else lasting_cause(office) is None
-
-
-def cause(office: Office) -> str:
-    """Why the database cannot be used, as far as it can be found out."""
-    found = holder(office)
-    if found is None:
-        return lasting_cause(office) or "no cause is to be seen now; its disk has " \
-            f"{shutil.disk_usage(os.path.dirname(os.path.realpath(office.path))).free >> 10:,} KiB free"
-    process, words = found
-    if (turns.keep_state(office) or {}).get("serve") == process:
-        return f"`keep` serves it (process {process})"
-    if "serve" in words:
-        return f"a `serve` has it (process {process}): stop it, or let `office keep` serve"
-    return f"another command has it (process {process}: {' '.join(words)[:100]})"
+    return found != "" and "serve" not in found.split()

@@ -30,8 +30,8 @@ CHAPTERS = set(re.findall("^## (.+)", (DESK.parent / "docs/HANDBOOK.md").read_te
 RAISED = [call.args[0].value for path in (DESK / "exam_desk").glob("*.py")  # sentences without a value
           for call in ast.walk(ast.parse(path.read_text("utf-8"))) if isinstance(call, ast.Call)
           and ast.unparse(call.func) == "Trouble" and isinstance(call.args[0], ast.Constant)]
-OTHERWISE = wording.LANGUAGES["en"].keys() & {*RAISED, keeping.RUNS, refusals.NO_CODE}  # said as no command says them
-SAID = [*refusals.SENTENCES.values(), *refusals.OTHER.values(), *OTHERWISE]
+OTHERWISE = wording.LANGUAGES["en"].keys() & {*RAISED, keeping.RUNS}  # said as no command says them
+SAID = [*refusals.SENTENCES.values(), *refusals.OTHER.values(), refusals.CAUSES, *OTHERWISE]
 CURES = [cure.removesuffix(typed.OF_A_SHEET) for cure in mistakes.CURES.values()]
 OPENED = [cells.PASSWORD, opening.NO_UTF_8, opening.NO_WORKBOOK, opening.OLD_FORM,  # why a file is not read
           backups.NO_OFFICE, backups.SEVERAL, backups.BROKEN, backups.TOO_LARGE]

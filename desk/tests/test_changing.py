@@ -488,7 +488,7 @@ class Taking(Changing):
         self.assertIn("\n1 joins a session without a desk\n  MON-PM 0009001 Zed: joined: EN-1, ", done.stdout)
         self.assertIn("\n1 joins a session\nsession MON-AM: ", done.stdout)
         self.assertEqual((self.state(), self.kept(), self.log()), (before, [], []))
-        self.assertIn("imported; ", self.office("take", facts, stdin="y\n"))
+        self.assertIn("done; ", self.office("take", facts, stdin="y\n"))
         self.assertEqual([os.path.basename(copy).split(" ", 3)[3] for copy in self.kept()], ["take facts"])
         self.assertIn("has all this already: nothing is changed", self.office("take", facts))
         self.assertIn("the office is as it was", self.office("back", "1", "--yes"))
@@ -516,7 +516,7 @@ class Taking(Changing):
         self.write("facts/candidates.csv", text)
         self.assertIn("1 candidate without an access code: nothing is changed; give --codes",
                       self.run_office("take", facts, "--yes").stderr)
-        self.assertIn("imported; ", self.office("take", facts, "--yes", "--codes"))
+        self.assertIn("done; ", self.office("take", facts, "--yes", "--codes"))
         self.assertRegex(self.office("look", "0009002", "--codes"), r"\A0009002 Ann, access code [B-Z][B-Z2-9]{9}\n")
         self.assertIn(f"access code {sample.CODE}\n", self.office("look", sample.NUMBER, "--codes"))
 

@@ -99,7 +99,7 @@ class WhatIf(test_changing.Changing):
         path = self.write("leave.csv", "number,paper\n0001017,MA-1\n")
         done = self.run_office("what-if", "reinstate", "--list", path)
         self.assertEqual((done.returncode, done.stdout), (1, "0 of 1 row would be done\n"))
-        self.assertEqual(done.stderr, "1 row refused (line 2): the entry is not withdrawn\n")
+        self.assertEqual(done.stderr, "line 2: reinstate 0001017 MA-1: refused 10\n  the entry is not withdrawn\n")
 
     def test_steps_that_were_made_for_another_state(self):
         """Another command came between the look at the office and the rehearsal."""
@@ -107,16 +107,16 @@ class WhatIf(test_changing.Changing):
         with changing.rehearse(self.value, [step]) as rehearsal:
             before, after = (snapshot.name_now(self.value, path) for path in (rehearsal.before, rehearsal.after))
             for state in ("another", after):
-                plan = programs.Asked([step], question="", done="", is_agreed=True, made_for=state)
+                plan = programs.Asked(steps=[step], is_agreed=True, made_for=state)
                 with self.assertRaisesRegex(Stale, "the office changed meanwhile, so nothing is changed"):
                     plan.said(rehearsal)
-            self.assertEqual(programs.Asked([step], question="", done="", is_agreed=True, made_for=before,
+            self.assertEqual(programs.Asked(steps=[step], is_agreed=True, made_for=before,
                                             own=lambda before, after: []).said(rehearsal), 0)
 
     def test_take_is_its_rehearsal_without_the_question(self):
         facts = self.facts()
         self.assertEqual(self.run_office("take", facts, stdin="n\n").stdout,
-                         self.office("what-if", "take", facts) + "import all this? [y/N] ")
+                         self.office("what-if", "take", facts) + "do this? [y/N] ")
 
     def test_what_changes_nothing_is_refused_and_not_done(self):
         self.write("candidates.csv", "number,name,code\n0009005,Eva,\n")
