@@ -1,6 +1,5 @@
 """Lists of withdrawals and of their way back: a refusal leaves the other rows, and others have their turns."""
 import contextlib
-import io
 import os
 import re
 import signal
@@ -13,7 +12,6 @@ from unittest import mock
 
 import sample
 import test_changing
-from commands import programs
 from exam_desk import listed, logbook
 from exam_desk.office import Office, Trouble
 
