@@ -16,15 +16,12 @@ if TYPE_CHECKING:
     from exam_desk.workbook.reading import Reading
 
 
-def add_reading(parser: command.Parser, is_folder: bool = False) -> None:
-    """The options of a command that reads values as a spreadsheet writes them: of a folder these alone."""
+def given_source(parser: command.Parser, *words: str) -> Namespace:
+    """The words of a command that reads a workbook, or a folder of import files."""
     from exam_desk.files import HEADERS
+    parser.add_argument("source", metavar="WORKBOOK|FOLDER")
     parser.add_argument("--dates", choices=["day-first", "month-first"], default="", help="what 01/06/2027 means")
     parser.add_argument("--encoding", help="of CSV files that are not UTF-8, such as cp1252")
-    parser.add_argument("--all", action="store_true", help="print a line for each cell, also where many say the same")
-    if is_folder:
-        parser.set_defaults(columns=None, sheet=None, leave=[], together=[], hidden="")
-        return
     parser.add_argument("--columns", metavar="FILE", help="a file .toml which says what the headers and words mean")
     parser.add_argument("--sheet", action="append", metavar="NAME",
                         help="read this sheet, and no other that is not named")
@@ -32,9 +29,10 @@ def add_reading(parser: command.Parser, is_folder: bool = False) -> None:
     parser.add_argument("--together", action="append", choices=[*HEADERS], default=[],
                         help="read all sheets of this kind as one list")
     parser.add_argument("--hidden", choices=["take", "leave"], default="", help="what becomes of hidden rows")
+    return command.given(parser, "--all: print a line for each cell, also where many say the same", *words)
 
 
-def read_source(office: Office, path: str, given: Namespace, is_folder: bool) -> Reading:
+def read_source(office: Office, given: Namespace) -> Reading:
     """Reads a workbook, or a folder of import files, as the options say. Raises `Trouble` where it cannot be read."""
     from exam_desk.checking import office_knows
     from exam_desk.workbook import headers, opening, reading, tables, values
@@ -42,9 +40,9 @@ def read_source(office: Office, path: str, given: Namespace, is_folder: bool) ->
     way = way._replace(dates=given.dates or way.dates)
     job = tables.Job(office_knows(office), way, asked, given.sheet, given.leave, given.together, given.hidden)
     command.progress("opening")
-    if is_folder:
-        return reading.mend_folder(path, job, given.encoding, command.progress)
-    return reading.read_book(opening.open_book(path, given.encoding), job, command.progress)
+    if os.path.isdir(given.source):
+        return reading.mend_folder(given.source, job, given.encoding, command.progress)
+    return reading.read_book(opening.open_book(given.source, given.encoding), job, command.progress)
 
 
 def print_lines(reading: Reading, everything: bool) -> None:
@@ -54,13 +52,40 @@ def print_lines(reading: Reading, everything: bool) -> None:
     command.say_lines(line.whole() for line in (reading.report.lines if everything else together(reading.report.lines)))
 
 
-def made(source: str, new: str, given: Namespace, is_folder: bool, lines_name: str) -> int:
+READERS = {  # what `--help` prints of the commands that make import files
+    "mend": """Mends import files that a spreadsheet broke: mend FOLDER [NEW]
+
+    office mend facts                           makes the folder facts-mended
+
+It reads those of the seven files that are there (sessions.csv ..) by the rules of `office read`: numbers get their
+zeros back, dates and times their form, and each change is a line with its file, column and line of the file, such as
+candidates!A17. What cannot be decided is a MISTAKE with a cure; where there is one nothing is written, and the status
+is 1. The files of FOLDER stay. The new folder is for its owner alone, and has all these lines, too, in mend.txt.
+""",
+    "read": """Makes the import files from a workbook: read WORKBOOK [FOLDER]
+
+    office read school.xlsx                     makes the folder school, with sessions.csv, papers.csv and so on
+    office read students.csv new --columns columns.toml
+
+It reads .xlsx, .xlsm, .ods and .csv. A sheet is found by its name (Candidates) or by its header, a column by its
+header. What a cell says in another way than the files is written as the files have it, and each such change is a line
+with its cell; what cannot be decided is a MISTAKE with a cure. Where there is one nothing is written, and the status is
+1. The folder must be new. It is for its owner alone, and has besides the files all these lines, in read.txt. Look
+through them before the import. Colours of cells and comments are not read, and the results of formulas are those of the
+last save.
+"""}
+
+
+def make_files(name: str, parser: command.Parser) -> int:
     """Reads a source, prints the lines, and makes the new folder where there is no mistake; gives the status."""
     from exam_desk import lists
     from exam_desk.workbook.reading import refuse_there, write_folder
-    target = os.path.abspath(new)
+    given = given_source(parser, "new?")
+    path = os.path.abspath(given.source)
+    default = f"{path}-mended" if os.path.isdir(path) else os.path.splitext(os.path.basename(path))[0]
+    target, lines_name = os.path.abspath(given.new or default), f"{name}.txt"
     refuse_there(target)
-    reading = read_source(command.office(), source, given, is_folder)
+    reading = read_source(command.office(), given)
     print_lines(reading, given.all)
     counts = ", ".join(lists.count(reading.report.count(sort), sort) for sort in ("mistake", "change", "note"))
     if reading.report.count("mistake"):
@@ -70,6 +95,10 @@ def made(source: str, new: str, given: Namespace, is_folder: bool, lines_name: s
         print(f"{kind}: {count}")
     print(f"{counts}: look through them in {plain(os.path.join(target, lines_name))}")
     return 0
+
+
+for reader, text in READERS.items():
+    command.COMMANDS[reader] = command.Command(text, partial(make_files, reader))
 
 
 @command.named("""Makes a backup of the office as one file, also while it is served: backup FILE.zip
@@ -92,16 +121,15 @@ def backup(parser: command.Parser) -> None:
 
 It reads sessions.csv, papers.csv, halls.csv, openings.csv, candidates.csv, arrangements.csv and entries.csv, those that
 are there, and the office's file if there is one; it changes nothing. Each mistake is a line: file, line, value, cure.
-What the program takes, though it may be wrong, is a note. Files without a mistake it imports into a private copy, and
-notes who would have no desk, who would miss a paper, who would sit otherwise, and which sessions would be at one time.
-Candidates without an access code are no mistake: one line counts them, and says how `office take` fills the codes in.
-The status is 1 if `office import` would refuse a file: for a mistake, or for a code that is empty.
+What the program takes, though it may be wrong, is a note. Candidates without an access code are no mistake: one line
+counts them, and says how `office take` fills the codes in. What files without a mistake would do to candidates
+`office what-if take FOLDER` says. The status is 1 if `office import` would refuse a file: for a mistake, or for a code
+that is empty.
 """)
 def check_files(parser: command.Parser) -> bool:
     from exam_desk import checking, lists
     gc.disable()  # a file can have a million rows, and no row refers to itself
-    given = command.given(parser, "folder")
-    lines, counts = checking.check_folder(command.office(), given.folder, command.progress, command.show_asked)
+    lines, counts = checking.check_folder(command.office(), command.given(parser, "folder").folder)
     command.say_lines(lines)
     if not counts["files"]:
         raise Trouble("none of the seven files is there")
@@ -109,45 +137,20 @@ def check_files(parser: command.Parser) -> bool:
     return bool(counts["mistakes"] or counts["codes"])
 
 
-@command.named("""\
-Makes access codes at random for those who have none: codes [CANDIDATES.csv] [--new NUMBER ..] [--import]
+@command.named("""Gives candidates another access code, at random: codes NUMBER ..
 
-    office codes                                   reads candidates.csv, writes candidates-with-codes.csv
-    office codes new.csv --output new-coded.csv
-    office codes --new 0001051 --import            another code for one candidate, in the office at once
-    office codes --new 0001051                     the row of this candidate with another code, as a file to import
+    office codes 0001051        afterwards `office slips --only 0001051 --codes` prints it
 
-It fills the column `code` where that is empty: with the code that the office has, since slips with it may be out, else
-with a new one. It keeps the codes that are there, and makes none twice. --new names who gets another code all the same;
-without CANDIDATES.csv their rows alone are written, as the office has them.
-
-It writes a new file for its owner alone, never over one that is there: look at it, and import it. With --import it
-writes none. A code has ten letters and digits, no vowels and nothing that looks alike, and begins with a letter.
+The old code opens nothing then. A code has ten letters and digits, no vowels and nothing that looks alike, and begins
+with a letter; none is made twice. Candidates who have none get theirs by `office take .. --codes`.
 """, changes=True)
 def codes(parser: command.Parser) -> command.Plan:
     from commands import programs
-    from exam_desk import coding, files, lists
-    from exam_desk.changing import Step
-    parser.add_argument("candidates", metavar="CANDIDATES.csv", nargs="?", help="candidates.csv if not given")
-    parser.add_argument("--new", metavar="NUMBER", type=typed.number, nargs="+", default=[],
-                        help="who gets another code")
-    form = parser.add_mutually_exclusive_group()
-    form.add_argument("--output", metavar="FILE", help="the new file, CANDIDATES-with-codes.csv if not given")
-    form.add_argument("--import", action="store_true", dest="at_once", help="imports the rows, and writes no file")
-    given = parser.parse_args()
-    path = given.candidates or "candidates.csv"
-    found = coding.coded(command.office(), None if given.new and not given.candidates else path, given.new)
-    if given.at_once:
-        step = Step(("import", "candidates", "rows with new codes"), files.file_of("candidates", found.rows))
-        return programs.Change(steps=[step], title=" ".join(["codes", *(["--new", *given.new] if given.new else [])]))
-    output = given.output or f"{os.path.splitext('candidates' if path in files.INPUTS else path)[0]}-with-codes.csv"
-
-    def write() -> None:
-        files.put(output, files.file_of("candidates", found.rows))
-        kept = f", {found.kept} filled from the office" if found.kept else ""
-        made, rows = lists.count(found.made, "code"), lists.count(len(found.rows), "row")
-        command.say(f"{plain(output)}: {made} made for {rows}{kept}\n")
-    return write
+    from exam_desk import coding
+    parser.add_argument("numbers", metavar="NUMBER", type=typed.number, nargs="+")
+    numbers = parser.parse_args().numbers
+    step = coding.recoded(command.existing_office(), numbers)
+    return programs.Change(steps=[step], title=" ".join(["codes", *numbers]))
 
 
 @command.named("""\
@@ -173,44 +176,10 @@ def dump(parser: command.Parser) -> None:
     command.say("\n".join([*write(command.office(), given.workbook or given.folder), ""]))
 
 
-@command.named("""Mends import files that a spreadsheet broke: mend FOLDER [NEW]
-
-    office mend facts                           makes the folder facts-mended
-
-It reads those of the seven files that are there (sessions.csv ..) by the rules of `office read`: numbers get their
-zeros back, dates and times their form, and each change is a line with its file, column and line of the file, such as
-candidates!A17. What cannot be decided is a MISTAKE with a cure; where there is one nothing is written, and the status
-is 1. The files of FOLDER stay. The new folder is for its owner alone, and has all these lines, too, in mend.txt.
-""")
-def mend(parser: command.Parser) -> int:
-    add_reading(parser, is_folder=True)
-    given = command.given(parser, "folder", "new?")
-    return made(given.folder, given.new or os.path.abspath(given.folder) + "-mended", given, True, "mend.txt")
-
-
-@command.named("""Makes the import files from a workbook: read WORKBOOK [FOLDER]
-
-    office read school.xlsx                     makes the folder school, with sessions.csv, papers.csv and so on
-    office read students.csv new --columns columns.toml
-
-It reads .xlsx, .xlsm, .ods and .csv. A sheet is found by its name (Candidates) or by its header, a column by its
-header. What a cell says in another way than the files is written as the files have it, and each such change is a line
-with its cell; what cannot be decided is a MISTAKE with a cure. Where there is one nothing is written, and the status is
-1. The folder must be new. It is for its owner alone, and has besides the files all these lines, in read.txt. Look
-through them before the import. Colours of cells and comments are not read, and the results of formulas are those of the
-last save.
-""")
-def read(parser: command.Parser) -> int:
-    add_reading(parser)
-    given = command.given(parser, "workbook", "folder?")
-    new = given.folder or os.path.splitext(os.path.basename(given.workbook))[0]
-    return made(given.workbook, new, given, False, "read.txt")
-
-
 @command.named("""Brings a workbook, or a folder of import files, into the office: take WORKBOOK|FOLDER
 
     office take school.xlsx         says what would change, asks, and imports
-    office take school.xlsx --codes gives each candidate who has no access code one, as `office codes` does
+    office take school.xlsx --codes gives each candidate who has no access code one
     office take facts --yes         without a question, for scripts
 
 It reads a workbook as `office read` does, and a folder as `office mend` does; where there is a mistake nothing is
@@ -221,10 +190,8 @@ all of it back.
 def take(parser: command.Parser) -> command.Plan:
     from commands import programs
     from exam_desk import coding
-    add_reading(parser)
-    parser.add_argument("source", metavar="WORKBOOK|FOLDER")
-    given = command.given(parser, "--yes: do not ask", "--codes: make access codes for candidates who have none")
-    reading = read_source(command.existing_office(), given.source, given, os.path.isdir(given.source))
+    given = given_source(parser, "--yes: do not ask", "--codes: make access codes for candidates who have none")
+    reading = read_source(command.existing_office(), given)
     if given.codes:
         coding.add_codes(command.office(), reading)
     print_lines(reading, given.all)

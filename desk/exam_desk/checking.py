@@ -1,19 +1,10 @@
-"""The mistakes of the import files of a folder, before any import: what `office check-files` says, as values. What the
-files would do is tried by the program on a private copy of the office, or on an empty office."""
-import contextlib
+"""The mistakes of the import files of a folder, before any import: what `office check-files` says, as values."""
 import os
-import sqlite3
-import tempfile
 from collections import Counter
-from collections.abc import Iterator, Mapping
-from dataclasses import replace
+from collections.abc import Iterator
 
-from exam_desk import changing, coding, effects, files, lists, mistakes, overlaps, private, running, snapshot
-from exam_desk.asking import Progress
-from exam_desk.changing import Step, Tell
-from exam_desk.office import Office, Trouble
-from exam_desk.reading import Reading
-from exam_desk.words import plain
+from exam_desk import files, lists, mistakes, snapshot
+from exam_desk.office import Office
 
 MOST_SHOWN = 5  # mistakes or notes on one column of a file
 WORKBOOKS = (".xlsx", ".xlsm", ".ods")
@@ -44,51 +35,19 @@ def texts_in(folder: str) -> dict[str, bytes]:
     return {kind: files.read(os.path.join(folder, name)) for kind in files.HEADERS if (name := f"{kind}.csv") in names}
 
 
-def check_folder(office: Office, folder: str, tell: Tell, progress: Progress) -> tuple[list[str], Counter[str]]:
+def check_folder(office: Office, folder: str) -> tuple[list[str], Counter[str]]:
     """Looks through the import files of a folder one after the other: each knows what the office has, and what those
-    before it bring. Files without a mistake are tried, with codes where these are empty. Gives the lines, and how many
-    files, mistakes, empty codes and notes there are. Raises `Trouble` as `texts_in`."""
+    before it bring. Gives the lines, and how many files, mistakes, empty codes and notes there are. Raises `Trouble` as
+    `texts_in`."""
     texts, known = texts_in(folder), office_knows(office)
     found = {f"{kind}.csv": mistakes.looked_through(kind, text, known, MOST_SHOWN) for kind, text in texts.items()}
-    codes = sum(wrong.counts[mistakes.NO_CODE] for wrong, _ in found.values())
-    counts = Counter(files=len(found), codes=codes, mistakes=sum(wrong.count for wrong, _ in found.values()))
-    tried = []
-    if texts and not counts["mistakes"]:
-        if codes:
-            coded = coding.coded(office, os.path.join(folder, "candidates.csv"), [])
-            texts["candidates"] = files.file_of("candidates", coded.rows)
-        tried = would_do(office, texts, tell, progress)
-    counts["notes"] = sum(notes.count for _, notes in found.values()) + len(tried)
+    counts = Counter(files=len(found), mistakes=sum(wrong.count for wrong, _ in found.values()),
+                     codes=sum(wrong.counts[mistakes.NO_CODE] for wrong, _ in found.values()),
+                     notes=sum(notes.count for _, notes in found.values()))
     lines = [line for name, (wrong, notes) in found.items()
              for line in (*lines_on(name, wrong, ""), *lines_on(name, notes, "NOTE: "))]
     others = (other(name) for name in sorted(os.listdir(folder)))
-    return [*lines, *(f"NOTE: {line}" for line in (*tried, *others) if line)], counts
-
-
-def would_do(office: Office, texts: Mapping[str, bytes], tell: Tell, progress: Progress) -> list[str]:
-    """What the files would do to candidates, in short, and which sessions would be at one time then; to an empty office
-    in a private folder where there is none. Where it cannot be tried, a line says why."""
-    steps = [Step(("import", kind, f"{kind}.csv"), text) for kind, text in texts.items()]
-    try:
-        with contextlib.ExitStack() as stack:
-            if not os.path.exists(office.path):
-                folder = stack.enter_context(private.private_folder(tempfile.gettempdir()))
-                office = replace(office, path=os.path.join(folder, office.base_name()))
-                running.run_over(office, office.path, "init")
-            rehearsal = stack.enter_context(changing.rehearse(office, steps, tell))
-            tell("")
-            if refused := changing.refused_of(rehearsal.answers):
-                raise Trouble(f"the program says {refused.first_line()} to {refused.step.words[-1]}")
-            with (Reading(office, rehearsal.before, progress) as before,
-                  Reading(office, rehearsal.after, progress) as after):
-                done = effects.Effects(before, after)
-                met = {kind: people for kind, people in effects.groups(done).items()
-                       if kind not in (effects.TWICE, effects.HALLS)}
-                found = [*effects.short_at_first(before, after), *effects.brief(met),
-                         *effects.other_codes(done), *overlaps.lines(after, overlaps.found(after))]
-        return [f"once imported: {line}" for line in found]
-    except (Trouble, OSError, sqlite3.Error, MemoryError) as fault:
-        return [f"nobody can say what the files would do: {plain(fault) or 'there is no memory'}"]
+    return [*lines, *(f"NOTE: {line}" for line in others if line)], counts
 
 
 def other(name: str) -> str:

@@ -17,10 +17,9 @@ LETTERS, DIGITS, LENGTH = "BCDFGHJKMNPQRSTVWXYZ", "23456789", 10
 
 
 class Coded(NamedTuple):
-    """Rows of candidates.csv, each with a code; how many codes were made, and how many fields have the office's."""
+    """Rows of candidates.csv, each with a code; and how many codes were made."""
     rows: list[list[str]]
     made: int
-    kept: int
 
 
 def in_office(office: Office) -> dict[str, list[str]]:
@@ -51,32 +50,25 @@ def new_code(taken: set[str]) -> str:
             return code
 
 
-def filled(rows: list[list[str]], known: dict[str, list[str]], new: set[str]) -> Coded:
-    """The rows; each that has no code, or that is to have a new one, with that of its number."""
+def filled(rows: list[list[str]], known: dict[str, list[str]]) -> Coded:
+    """The rows; each that has no code with that of its number."""
     codes = {number: code for number, _, code in [*known.values(), *rows] if code}
-    taken = set(codes.values())
-    codes = {number: code for number, code in codes.items() if number not in new}
-    found, made, kept = [], 0, 0
-    for number, name, code in rows:
+    taken, had = set(codes.values()), len(codes)
+    for number, _, code in rows:
         if number not in codes:
             codes[number] = new_code(taken)
-            made += 1
-        if number in new or not code:
-            code = codes[number]
-            kept += number in known and code == known[number][2]
-        found.append([number, name, code])
-    return Coded(found, made, kept)
+    return Coded([[number, name, code or codes[number]] for number, name, code in rows], len(codes) - had)
 
 
-def coded(office: Office, path: str | None, new: list[str]) -> Coded:
-    """The rows of a file with codes, or without a file those of the office of who gets another code. Raises `Trouble`
-    as `read`, and where one of the new numbers is not there."""
+def recoded(office: Office, numbers: list[str]) -> Step:
+    """The rows of candidates, each with another code. `Trouble` where nobody has a number."""
     known = in_office(office)
-    rows = [known[number] for number in dict.fromkeys(new) if number in known] if path is None \
-        else read(files.read(path, office.warn), path)
-    for number in set(new) - {row[0] for row in rows}:
-        raise Trouble(f"{number} is not in {path or 'the office'}; a number has seven digits")
-    return filled(rows, known, set(new))
+    taken = {code for _, _, code in known.values()}
+    for number in numbers:
+        if number not in known:
+            raise NoCandidate(number)
+    rows = [[*known[number][:2], new_code(taken)] for number in dict.fromkeys(numbers)]
+    return Step(("import", "candidates", "rows with new codes"), files.file_of("candidates", rows))
 
 
 def renamed(office: Office, number: str, name: str) -> Step:
@@ -94,7 +86,7 @@ def renamed(office: Office, number: str, name: str) -> Step:
 def add_codes(office: Office, reading: Reading) -> None:
     """Gives each candidate who was read without a code one: that of the office for the number, else a new one."""
     records, report = reading.records.get("candidates", []), reading.report
-    coded = filled([record.fields for record in records], in_office(office), set())
+    coded = filled([record.fields for record in records], in_office(office))
     reading.records["candidates"] = [record._replace(fields=row) for record, row in zip(records, coded.rows)]
     report.lines = [line for line in report.lines if line.what != mistakes.NO_CODE]
     if coded.made and not report.count("mistake"):
@@ -103,7 +95,7 @@ def add_codes(office: Office, reading: Reading) -> None:
 
 def steps_of(reading: Reading) -> list[Step]:
     """The imports of what was read, in order. `Trouble` at a mistake, as where nothing was read, or an empty code."""
-    from exam_desk.workbook.reading import file_parts  # here, since `office codes` needs no workbook
+    from exam_desk.workbook.reading import file_parts  # here, since a code or a name needs no workbook
     if count := reading.report.count("mistake"):
         raise Trouble(f"{lists.count(count, 'mistake')}: nothing is changed")
     if empty := sum(not record.fields[2] for record in reading.records.get("candidates", [])):

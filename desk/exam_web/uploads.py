@@ -220,7 +220,7 @@ def with_codes(upload: Upload, page: Page, form: Form) -> dict[str, bytes]:
     if all(record.fields[-1] for record in below_header(content)):
         return {}
     known = {row[0]: row for row in files.rows_of(view().reading.rows, "candidates")}
-    coded = coding.filled(coding.read(content, "candidates.csv"), known, set())
+    coded = coding.filled(coding.read(content, "candidates.csv"), known)
     if coded.made and not form.get("codes"):
         raise Wrong(page, codes=text(
             "without an access code no candidate is imported: tick below that the desk makes them"))

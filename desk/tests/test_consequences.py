@@ -197,7 +197,6 @@ class Told(sample.SampleSchool):
         others = [",".join(rows[0]), *(f"{number},{name},NEW{code}" for number, name, code in rows[1:])]
         several = self.write("candidates.csv", "\n".join(others))
         self.assertIn(f"5 have other access codes{lost}\n", self.office("what-if", "import", "candidates", several))
-        self.assertIn(f"NOTE: once imported: 5 have other access codes{lost}\n", self.office("check-files", "."))
         self.assertEqual(self.told("import", "candidates", several), [f"5 have other access codes{lost}"])
 
     def test_printed_papers_are_out_of_date(self):
@@ -286,8 +285,9 @@ class Told(sample.SampleSchool):
         path = self.write("s.csv", "session,date,start\nMON-AM,2026-06-07,09:00\n")
         self.assertEqual(self.told("import", "sessions", path)[0],
                          "1 session that is over is changed: MON-AM of 2026-06-07 for 60 candidates")
-        done = self.run_office("check-files", self.examples, TODAY="2027-07-01", OFFICE=f"{self.folder}/none.db")
-        self.assertIn("NOTE: once imported: 3 sessions lie in the past: last year's dates?\n", done.stdout)
+        self.office("init", OFFICE=f"{self.folder}/none.db")
+        done = self.run_office("what-if", "take", self.examples, TODAY="2027-07-01", OFFICE=f"{self.folder}/none.db")
+        self.assertIn("3 sessions lie in the past: last year's dates?\n", done.stdout)
         self.assertNotIn("that are over", done.stdout)
 
     def test_what_an_arrangement_does_to_the_past_is_not_told(self):
@@ -329,8 +329,6 @@ class Told(sample.SampleSchool):
             self.assertNotIn("begins", "".join(self.told("open-hall", "MON-PM", "R14", "2", "18:00")))  # nor on the other
             self.office("back", "2", "--yes")
         self.assertEqual(self.told("open-hall", "MON-AM", "R14", "2", "09:01"), [])
-        self.write("openings.csv", "session,hall,desks,until,reserved\nMON-AM,R14,2,08:00,no\n")
-        self.assertIn(f"NOTE: once imported: {said}: MON-AM R14 (open until 08:00)\n", self.office("check-files", "."))
         later = self.write("s.csv", "session,date,start\nMON-AM,2027-06-07,23:00\n")
         self.assertRegex(self.told("import", "sessions", later)[0], "^[0-9] halls are closed when their sessions begin: MON-AM ")
 

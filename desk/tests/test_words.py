@@ -49,12 +49,11 @@ class Words(sample.SampleSchool):
     def test_an_empty_code(self):
         self.write("new.csv", "number,name,code\n0001051,Ann,\n")
         said = self.refused("import", "candidates", "new.csv")
-        self.assertIn("office name NUMBER NAME", said)
-        self.assertIn("office codes FILE", said)
-        self.assertEqual(self.office("codes", "new.csv"),
-                         "new-with-codes.csv: 0 codes made for 1 row, 1 filled from the office\n")
+        self.assertIn("`office take ..` fills in 1 from the office", said)
         code = self.row()[1]
-        self.assertEqual(self.office("import", "candidates", "new-with-codes.csv"), "added 0 changed 1 same 0\n")
+        os.mkdir(os.path.join(self.folder, "new"))
+        self.write("new/candidates.csv", "number,name,code\n0001051,Ann,\n")
+        self.office("take", "new", "--yes")
         self.assertEqual(self.row(), ("Ann", code))
 
 
