@@ -5,7 +5,6 @@ from functools import partial
 
 import command
 from exam_desk.office import Office, Trouble
-from exam_desk.words import plain
 
 
 @command.named("""Lists the copies from before each change, or puts one back: back [NUMBER [--yes]].
@@ -32,13 +31,10 @@ def back(parser: command.Parser) -> command.Plan:
 
 
 def list_copies(office: Office) -> None:
-    from exam_desk import copies, logbook
-    found, made = copies.listed(office), logbook.made(office)
-    if not found:
-        print("no copies")
-    for number, copy in enumerate(found, 1):
-        when, what = copies.when_and_what(copy)
-        print(f"{number:3}  {when}  before {plain(what)}{'  (older than the last `office init`)' * (when < made)}")
+    from exam_desk import copies
+    lines = [f"{number:3}  {when}  before {what}" for number, (when, what)
+             in enumerate(map(copies.when_and_what, copies.listed(office)), 1)]
+    command.say_lines(lines or ["no copies"])
 
 
 @command.named("""\

@@ -307,20 +307,14 @@ def way_back(copy: str) -> str:
 
 def way_on(office: Office, found: logbook.Unfinished) -> str:
     """What is said of a change without an end in the log."""
-    what = f"`{found.command}` of {found.when}"
-    if not found.copy:
-        return f"{what} has no end in the log: it is there whole or not at all; look"
+    what = f"`{found.command}` of {found.when} was broken off"
     copy = beside.folder(office.path, copies.PLACE, found.copy)
-    count = found.count and f", after {found.count} at least"
-    behind = (f" behind `{found.done}`{count}" if found.done else " in its first step" if found.begun else
-              ", and is done")
     if copy not in copies.listed(office):
-        return f"{what} was broken off{behind if found.begun else ''}; its copy is gone"
+        return f"{what}, and has no copy: look whether it is done"
     with contextlib.suppress(Trouble):
         if state_of(office) == snapshot.name_now(office, copies.file_in(office, copy)):
-            is_undone = found.begun or copies.is_as_now(office, copy)  # an appeal that is refused is in no state's name
-            return f"{what} was broken off; {'nothing of it is left' if is_undone else 'give it again'}"
-    return f"{what} was broken off{behind}: {way_back(copy)}"
+            return f"{what}; facts and seats are as before it: give it again"  # an appeal that is refused is no part
+    return f"{what}: {way_back(copy)}"
 
 
 def make_new(office: Office) -> running.Ran:

@@ -34,7 +34,7 @@ OTHERWISE = wording.LANGUAGES["en"].keys() & {*RAISED, keeping.RUNS}  # said as 
 SAID = [*refusals.SENTENCES.values(), *refusals.OTHER.values(), refusals.CAUSES, *OTHERWISE]
 CURES = [cure.removesuffix(typed.OF_A_SHEET) for cure in mistakes.CURES.values()]
 OPENED = [cells.PASSWORD, opening.NO_UTF_8, opening.NO_WORKBOOK, opening.OLD_FORM,  # why a file is not read
-          backups.NO_OFFICE, backups.SEVERAL, backups.BROKEN, backups.TOO_LARGE]
+          backups.NO_OFFICE, backups.SEVERAL, backups.ALONE, backups.BROKEN, backups.TOO_LARGE]
 OF_COMMANDS = re.compile("header|column|first line|UTF-16|split it|^these are|file is empty|access code;|SELECT|NOTE|"
                          "office (take|withdraw)|--codes|looked for|file fault|refused|chmod")  # no page shows these
 
@@ -194,7 +194,7 @@ def main():
     found.update(re.findall(r'\btext\("((?:[^"\\]|\\.)*)"', (DESK / "exam_web/wording.py").read_text("utf-8")))
     for table in TABLES.values():
         found.update(table)
-    found.update(SAID, OPENED, FORMED, OWN, second_sitting.TEXTS, [copies.OTHERS, copies.NAMED, copies.UNKNOWN],
+    found.update(SAID, OPENED, FORMED, OWN, second_sitting.TEXTS, [copies.OTHERS, copies.UNKNOWN],
                  [appeals.LOST, appeals.OTHERWISE, appeals.STANDING, appeals.GONE])
     print(json.dumps({"found": sorted(found), "lost": lost}))
 

@@ -220,8 +220,8 @@ class Listed(test_changing.Changing):
         program = self.program('[ "$5 $6" = "withdraw 0001017" ] && kill -KILL $PPID && exit 9')
         self.assertEqual(self.run_list(f"{GOOD}0001034,FR\n", EXAMOFFICE=program).returncode, -signal.SIGKILL)
         said = self.run_office("look", "1000").stderr
-        self.assertRegex(said, "^office: `withdraw --list .* for 0001000 0001017 0001034` of .* was broken off behind "
-                               "`withdraw 0001000 MA-1`: `office back` lists the copy of .*, before withdraw --list .*\n$")
+        self.assertRegex(said, "^office: `withdraw --list .* for 0001000 0001017 0001034` of .* was broken off: "
+                               "`office back` lists the copy of .*, before withdraw --list .*\n$")
         self.run_office("back", "1", "--yes")
         self.assertEqual(self.state(), self.before)
 
@@ -247,8 +247,8 @@ class Listed(test_changing.Changing):
             process.kill()
         said = [self.run_office(*words).stderr for words in (("look", "1000"), ("reinstate", "0001017", "EN-2"))]
         for text in said:
-            self.assertRegex(text, f"^office: `{re.escape(LISTED)}` of .* was broken off behind `withdraw 0001000 MA-1`, after 1 of "
-                                   "3 rows at least: `office back` lists the copy of .*, before withdraw --list .*, and puts it back\n")
+            self.assertRegex(text, f"^office: `{re.escape(LISTED)}` of .* was broken off: "
+                                   "`office back` lists the copy of .*, before withdraw --list .*, and puts it back\n")
         self.office("look", "1000")
         self.office("withdraw", "0001017", "EN-2")
         self.assertIn([LISTED, "1", "broken off"], self.log())

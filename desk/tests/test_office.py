@@ -395,15 +395,11 @@ class Back(sample.SampleSchool):
         self.assertEqual(self.facts(), after)
         self.assertIn("the office is as it was on", self.office("back", "1", stdin="y\n"))
         self.assertEqual(self.facts(), before)
-        self.assertRegex(self.office("back"), r"^  1  .*  before undoing close-hall MON-AM GYM\n"
-                                               r"  2  .*  before close-hall MON-AM GYM\n$")
+        self.assertRegex(self.office("back"), r"^  1  .*  before back to (.*)\n  2  \1  before close-hall MON-AM GYM\n$")
         self.office("back", "1", "--yes")
         self.assertEqual(self.facts(), after)
-        for says in ("redoing close-hall MON-AM GYM", "undoing close-hall MON-AM GYM"):
-            self.assertRegex(self.office("back"), rf"^  1  .*  before {says}\n")
-            self.office("back", "1", "--yes")
-        self.office("back", "5", "--yes")
-        self.assertRegex(self.office("back"), r"^  1  .*  before undoing close-hall MON-AM GYM and what followed\n")
+        self.office("back", "3", "--yes")
+        self.assertEqual(self.facts(), before)
         self.assertEqual(self.office("check"), "good\n")
         done = self.run_office("back", "one")
         self.assertEqual((done.returncode, done.stdout), (2, ""))
@@ -514,7 +510,7 @@ class Back(sample.SampleSchool):
         done = self.run_office("withdraw", "0001000", "MA-1")
         self.assertEqual((done.stdout, done.returncode), ("withdrawn\n", 0))
         self.assertRegex(done.stderr, "^office: `import entries .*/late.csv for 0001000 FR` of .* was broken off; "
-                                      "nothing of it is left\n1 leaves a session: ")
+                                      "facts and seats are as before it: give it again\n1 leaves a session: ")
         self.assertEqual(self.office("reinstate", "0001000", "MA-1"), "reinstated\n")
 
 
