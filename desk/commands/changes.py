@@ -67,16 +67,20 @@ Lodges an appeal at the counter, for a candidate who is there: lodge NUMBER SESS
 
 It goes the candidates' way, over HTTP, with the candidate's code from the file, through `keep` where that serves. It
 makes the reference, D1, D2 and so on, and prints it with the state. Then decide it: `office decide 0001051 D1 ..`.
-With - as REASON it reads a line from standard input: so the reason is in no history and in no list of processes.
-""", changes=True)
-def lodge(parser: command.Parser) -> command.Plan:
+With - as REASON it reads a line from standard input: so the reason is in no history and in no list of processes. A
+lodging moves nobody: `office what-if decide NUMBER REF granted ''` says what a grant would come to.
+""")
+def lodge(parser: command.Parser) -> int:
     from commands import programs
-    from exam_desk import typed
+    from exam_desk import lodging, typed
     words = command.given_as_typed(parser, "NUMBER SESSION KIND VALUE .. REASON")
     words[:1] = map(typed.number, words[:1])
-    if wrong := typed.wrong_of_lodging(words) or typed.wrong_of_lodging(command.with_reason(words)):
+    wrong = typed.wrong_of_lodging(words)
+    if not wrong:
+        wrong = typed.wrong_of_lodging(words := command.with_reason(words))
+    if wrong:
         parser.error("; ".join(wrong))
-    return programs.Lodging(words=words)
+    return programs.said(*lodging.lodge(command.office(), words))
 
 
 @command.named("""Gives a candidate another name: name NUMBER NAME
@@ -129,9 +133,8 @@ def second_sitting(parser: command.Parser) -> command.Plan:
     office what-if withdraw --list leave.csv
     office what-if take school.xlsx
     office what-if back 1         what `office back 1` would do, and which appeals and decisions it would take away
-    office what-if lodge ..       whether the appeal can be lodged, and what a grant of it would come to
 
-It takes each command that changes the office, carries it out on a private copy, asks nothing, and prints what came of
+It takes each command that changes seats, carries it out on a private copy, asks nothing, and prints what came of
 it; then who would lose a desk, move, get one, join or leave, at most 20 of each. The status is that of the command.
 """)
 def what_if(parser: command.Parser) -> int:
@@ -140,11 +143,8 @@ def what_if(parser: command.Parser) -> int:
     own = {name: each for name, each in command.COMMANDS.items() if each.changes}
     name = "".join(words[:1])
     plan = own[name].run(command.parser_of(name, words[1:])) if name in own else programs.of_program([name, *words[1:]])
-    if name in command.COMMANDS and command.COMMANDS[name].run.__module__ == "commands.beside":
-        raise Trouble(f"`office {name} ..` changes no seat, so there is nothing to rehearse; `office {name}` alone "
-                      "shows what is kept, and `office printed` which papers are out of date by it")
     if not isinstance(plan, programs.Change):
-        why = f"`office {name}` does not change the office; " if name else ""
+        why = f"`office {name}` changes no seat; " if name else ""
         raise Trouble(f"{why}name a command that does: {', '.join(sorted([*own, *programs.CHANGES]))}")
     with programs.rehearsed(plan) as (status, _):
         return status

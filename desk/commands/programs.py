@@ -6,10 +6,10 @@ import os
 import subprocess
 import sys
 from collections.abc import Callable, Iterator, Sequence
-from dataclasses import dataclass, replace
+from dataclasses import dataclass
 
 import command
-from exam_desk import (beside, changing, copies, effects, files, listed, lists, lodging, notebook,
+from exam_desk import (beside, changing, copies, effects, files, listed, lists, notebook,
                        private, refusals, running, snapshot, turns, typed)
 from exam_desk.changing import Answered, Rehearsal, Step
 from exam_desk.office import Office, Stale, Trouble
@@ -162,26 +162,6 @@ class Back(Change):
         self.tell("is", done.lines)
         command.tell_consequences(done.copy)
         return 0
-
-
-@dataclass(kw_only=True)
-class Lodging(Change):
-    """An appeal, over HTTP."""
-    words: Sequence[str]
-
-    def said(self, rehearsal: Rehearsal) -> int:
-        """A lodging moves nobody: it shows what a grant behind it would come to, which no other rehearsal can."""
-        lodged = lodging.lodge(replace(rehearsal.office, path=rehearsal.after), self.words)
-        status = said(*lodged)
-        if not status:
-            command.say("lodging moves nobody; if you granted it afterwards:\n")
-            grant = Step(("decide", *lodged.first_line().split()[:2], "granted", ""))
-            rehearsal.answers.append(Answered(grant, running.run_over(rehearsal.office, rehearsal.after, *grant.words)))
-            said(*rehearsal.answers[-1])
-        return status
-
-    def __call__(self) -> int:
-        return said(*lodging.lodge(command.office(), self.words))
 
 
 @contextlib.contextmanager

@@ -55,7 +55,7 @@ def sentences(module):
                                   for value in part.values)
 
 
-OF_KEEP = re.compile("^serving {|^process {|^no answer came|^it has more|it tries again|^`keep` (runs|does)|^the last line|"
+OF_KEEP = re.compile("^serving {|^process {|^no answer within|^`keep` (runs|does)|^the last line|"
                      r"cannot be had: \{1")
 FORMED = [*mistakes.CURES.values(), mistakes.EMPTY_ROW, files.NO_UTF_8, *(
     each for module in (mistakes, refusals) for each in sentences(module)

@@ -148,14 +148,6 @@ class Listed(test_changing.Changing):
         self.assertIn("office reinstate --list FILE.csv\n", self.office("reinstate", "--help"))
         self.assertIn("\n  `office --help` lists the commands", self.run_office("--list").stderr)
 
-    def test_what_a_word_processor_makes_of_quotes(self):
-        """Also in a reason, which is private."""
-        for word, said in (("\u2014list", "\u2014"), ("\u201ca draught", "\u201c")):
-            done = self.run_office("decide", "1017", "HA1", "granted", word, "x")
-            self.assertIn(f"office: NOTE a word begins with {said} of a word processor: type \", ' or -- there\n", done.stderr)
-            self.assertNotIn(word[1:], done.stderr)
-        self.assertNotIn("NOTE", self.run_office("decide", "1017", "HA1", "granted", "it\u2019s \u201cfine\u201d").stderr)
-
     def test_turns(self):
         for seconds, turns in ((listed.TURN, 1), (0, 2)):
             kept = len(self.kept())

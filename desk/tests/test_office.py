@@ -86,9 +86,9 @@ class Words(sample.SampleSchool):
     def test_a_reason_from_standard_input(self):
         """Of a lodging and of its decision; it is as wrong there as among the words."""
         reason = '"Angst" <b> é'
-        for wrong, said in (("", "none"), (f"{reason}\nmore\n", "several")):
+        for wrong in "", f"{reason}\nmore\n":
             self.assertEqual(self.refused("lodge", "1051", "MON-AM", "hall", "PC1", "-", stdin=wrong),
-                             f"office: a reason or an answer is one line; {said} came in: nothing is done\n")
+                             "office: a reason or an answer is one line; none came in, or several: nothing is done\n")
         said = self.office("lodge", "1051", "MON-AM", "hall", "PC1", "-", stdin=f"{reason}\r\n")
         self.assertEqual(said, "0001051 D1 open\n")
         self.assertIn("at most 200 bytes", self.run_office(

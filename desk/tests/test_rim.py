@@ -66,19 +66,19 @@ class Ending(sample.KeptSchool):
 
 
 class Crowded(unittest.TestCase):
-    def test_status_does_not_call_a_refusal_no_answer(self):
+    def test_status_where_no_answer_comes(self):
         state = {"pid": 7, "place": "8080", "state": "serving", "day": "2027-05-01"}
         with (mock.patch("exam_desk.turns.keep_state", return_value=state),
               mock.patch("exam_desk.asking.answer") as answer):
-            for said, why in ((hold.FULL, "it has more clients than it takes at once, or no memory"),
-                              (hold.FULL[:-1], "no answer came within 5 seconds; it begins anew by itself"),
-                              (OSError(), "no answer came within 5 seconds; it begins anew by itself")):
+            for said in hold.FULL, hold.FULL[:-1], OSError():
                 answer.side_effect = [said]
-                self.assertEqual(keeping.status(None), (False, f"process 7 does not serve now: {why}"))
+                self.assertEqual(keeping.status(None), (False, "process 7 does not serve now: no answer within 5 seconds, or "
+                                                               "more clients than it takes at once; it tries again by itself"))
 
     def test_status_of_what_runs_elsewhere_or_could_write_nothing(self):
         for state, said in (({"pid": 0, "state": "serving"}, "`keep` runs in another container or on another machine: ask there"),
-                            ({"pid": 7}, "process 7 runs, but cannot write down what it does: is the disk full?")):
+                            ({"pid": 7}, "process 7 does not serve now: it begins, or a command has the office; it tries again "
+                                         "by itself")):
             with mock.patch("exam_desk.turns.keep_state", return_value=state):
                 self.assertEqual(keeping.status(None), (False, said))
 

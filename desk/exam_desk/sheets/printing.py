@@ -20,16 +20,16 @@ COMPARED = 12  # sheets at most that the program prints too
 Sheets = dict[tuple[str, ...], list[str]]  # the lines of each sheet, by the words of its command
 
 
-def text(reading: Reading, session: str, lines: int, columns: int, progress: Callable[[str, float], None]) -> str:
+def text(reading: Reading, session: str, lines: int, columns: int, progress: Callable[[str], None]) -> str:
     """All sheets, each page of at most so many lines of so many letters; a form feed stands between two pages. Raises
     `Trouble` where a sheet is not as the program prints it."""
     sheets = written(reading, facts.session_row(reading.rows, session))
     compared = list(sheets)[::-math.ceil(len(sheets) / COMPARED)]
     for done, name in enumerate(compared):
-        progress("sheets are compared with the program's", done / len(compared))
+        progress(f"{done} of {len(compared)} sheets are compared with the program's")
         if reading.sheet(*name).split("\n")[:-1] != sheets[name]:
             raise Trouble(f"the program prints another {' '.join(name)} than its answers give; nothing is printed")
-    progress("", 1)
+    progress("")
     return "\f".join(page for sheet in sheets.values() for page in pages([*map(plain, sheet)], lines, columns))
 
 
