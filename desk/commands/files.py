@@ -15,6 +15,8 @@ if TYPE_CHECKING:
     from argparse import Namespace
     from exam_desk.workbook.reading import Reading
 
+LINES = "read.txt"  # in the folder that `read` makes: what was changed
+
 
 def given_source(parser: command.Parser, *words: str) -> Namespace:
     """The words of a command that reads a workbook, or a folder of import files."""
@@ -33,7 +35,8 @@ def given_source(parser: command.Parser, *words: str) -> Namespace:
 
 
 def read_source(office: Office, given: Namespace) -> Reading:
-    """Reads a workbook, or a folder of import files, as the options say. Raises `Trouble` where it cannot be read."""
+    """Reads a workbook, or a folder of import files, as the options say, and prints what was changed, and what is wrong.
+    Raises `Trouble` where it cannot be read."""
     from exam_desk.checking import office_knows
     from exam_desk.workbook import headers, opening, reading, tables, values
     asked, way = headers.read_columns(given.columns) if given.columns else ({}, values.Way())
@@ -41,64 +44,51 @@ def read_source(office: Office, given: Namespace) -> Reading:
     job = tables.Job(office_knows(office), way, asked, given.sheet, given.leave, given.together, given.hidden)
     command.progress("opening")
     if os.path.isdir(given.source):
-        return reading.mend_folder(given.source, job, given.encoding, command.progress)
-    return reading.read_book(opening.open_book(given.source, given.encoding), job, command.progress)
-
-
-def print_lines(reading: Reading, everything: bool) -> None:
-    """Prints what was changed, and what is wrong."""
-    from exam_desk.workbook.tables import together
+        found = reading.mend_folder(given.source, job, given.encoding, command.progress)
+    else:
+        found = reading.read_book(opening.open_book(given.source, given.encoding), job, command.progress)
+    if getattr(given, "codes", False):
+        from exam_desk import coding
+        coding.add_codes(office, found)
     command.progress("")
-    command.say_lines(line.whole() for line in (reading.report.lines if everything else together(reading.report.lines)))
+    command.say_lines(line.whole() for line in (
+        found.report.lines if given.all else tables.together(found.report.lines)))
+    return found
 
 
-READERS = {  # what `--help` prints of the commands that make import files
-    "mend": """Mends import files that a spreadsheet broke: mend FOLDER [NEW]
+@command.named("""Makes the import files from a workbook, or from files that a spreadsheet broke: read WORKBOOK|FOLDER [NEW]
 
-    office mend facts                           makes the folder facts-mended
-
-It reads those of the seven files that are there (sessions.csv ..) by the rules of `office read`: numbers get their
-zeros back, dates and times their form, and each change is a line with its file, column and line of the file, such as
-candidates!A17. What cannot be decided is a MISTAKE with a cure; where there is one nothing is written, and the status
-is 1. The files of FOLDER stay. The new folder is for its owner alone, and has all these lines, too, in mend.txt.
-""",
-    "read": """Makes the import files from a workbook: read WORKBOOK [FOLDER]
-
-    office read school.xlsx                     makes the folder school, with sessions.csv, papers.csv and so on
+    office read school.xlsx     makes the folder school, with sessions.csv, papers.csv and so on
     office read students.csv new --columns columns.toml
+    office mend facts           makes the folder facts-mended
 
-It reads .xlsx, .xlsm, .ods and .csv. A sheet is found by its name (Candidates) or by its header, a column by its
-header. What a cell says in another way than the files is written as the files have it, and each such change is a line
-with its cell; what cannot be decided is a MISTAKE with a cure. Where there is one nothing is written, and the status is
-1. The folder must be new. It is for its owner alone, and has besides the files all these lines, in read.txt. Look
-through them before the import. Colours of cells and comments are not read, and the results of formulas are those of the
-last save.
-"""}
-
-
-def make_files(name: str, parser: command.Parser) -> int:
-    """Reads a source, prints the lines, and makes the new folder where there is no mistake; gives the status."""
+It reads .xlsx, .xlsm, .ods and .csv, or those of the seven files that are in a folder. A sheet is found by its name
+(Candidates) or by its header, a column by its header. What a cell says in another way than the files is written as the
+files have it: numbers get their zeros back, dates and times their form. Each such change is a line with its cell. What
+cannot be decided is a MISTAKE with a cure; where there is one nothing is written, and the status is 1. The folder must
+be new. It is for its owner alone, and has all these lines, too, in read.txt: look through them before the import.
+Colours of cells and comments are not read, and the results of formulas are those of the last save.
+""")
+def read(parser: command.Parser) -> int:
     from exam_desk import lists
     from exam_desk.workbook.reading import refuse_there, write_folder
     given = given_source(parser, "new?")
     path = os.path.abspath(given.source)
     default = f"{path}-mended" if os.path.isdir(path) else os.path.splitext(os.path.basename(path))[0]
-    target, lines_name = os.path.abspath(given.new or default), f"{name}.txt"
+    target = os.path.abspath(given.new or default)
     refuse_there(target)
     reading = read_source(command.office(), given)
-    print_lines(reading, given.all)
     counts = ", ".join(lists.count(reading.report.count(sort), sort) for sort in ("mistake", "change", "note"))
     if reading.report.count("mistake"):
         print(f"{counts}: nothing is written")
         return 1
-    for kind, count in write_folder(target, reading, lines_name).items():
+    for kind, count in write_folder(target, reading, LINES).items():
         print(f"{kind}: {count}")
-    print(f"{counts}: look through them in {plain(os.path.join(target, lines_name))}")
+    print(f"{counts}: look through them in {plain(os.path.join(target, LINES))}")
     return 0
 
 
-for reader, text in READERS.items():
-    command.COMMANDS[reader] = command.Command(text, partial(make_files, reader))
+command.COMMANDS["mend"] = command.COMMANDS["read"]
 
 
 @command.named("""Makes a backup of the office as one file, also while it is served: backup FILE.zip
@@ -120,11 +110,9 @@ def backup(parser: command.Parser) -> None:
     office check-files .
 
 It reads sessions.csv, papers.csv, halls.csv, openings.csv, candidates.csv, arrangements.csv and entries.csv, those that
-are there, and the office's file if there is one; it changes nothing. Each mistake is a line: file, line, value, cure.
-What the program takes, though it may be wrong, is a note. Candidates without an access code are no mistake: one line
-counts them, and says how `office take` fills the codes in. What files without a mistake would do to candidates
-`office what-if take FOLDER` says. The status is 1 if `office import` would refuse a file: for a mistake, or for a code
-that is empty.
+are there, and the office's file if there is one. Each mistake is a line: file, line, value, cure. What the program
+takes, though it may be wrong, is a note. Candidates without an access code are counted in one line. What files without
+a mistake would do `office what-if take FOLDER` says. The status is 1 if `office import` would refuse a file.
 """)
 def check_files(parser: command.Parser) -> bool:
     from exam_desk import checking, lists
@@ -159,12 +147,10 @@ Writes the facts of the office as the seven CSV files, for the spreadsheet or th
     office dump facts
     office dump --workbook facts.xlsx
 
-The files can be imported again. It makes the folder and its files for their owner alone, since they hold the access
-codes; a folder that is there is left as it is. What a file cannot say: withdrawn entries are in withdrawn.txt and not
-in entries.csv, and appeals are in none. A file that would be too long for an import goes on in entries-2.csv, and so
-on. Each value is in quotes, and names are as they are: to a spreadsheet one that begins with = is a formula, unless its
-column has the format text. With --workbook it writes one .xlsx instead, of seven sheets whose columns have that format;
-`office read` reads it.
+The files can be imported again. They are for their owner alone, since they hold the access codes. What is there already
+is left as it is. Withdrawn entries are in withdrawn.txt and not in entries.csv, and appeals are in none. A file that
+would be too long for an import goes on in entries-2.csv, and so on. A name that begins with = is a formula to a
+spreadsheet, unless its column has the format text, as in the workbook.
 """)
 def dump(parser: command.Parser) -> None:
     from exam_desk import dumping
@@ -182,20 +168,16 @@ def dump(parser: command.Parser) -> None:
     office take school.xlsx --codes gives each candidate who has no access code one
     office take facts --yes         without a question, for scripts
 
-It reads a workbook as `office read` does, and a folder as `office mend` does; where there is a mistake nothing is
-changed, and the status is 1. It tries all imports on a private copy of the office, and says what each would do and who
-would lose a desk, move, get one, join or leave. Then it imports in order, whole or not at all; `office back 1` takes
-all of it back.
+It reads as `office read` does; where there is a mistake nothing is changed, and the status is 1. It tries all imports on
+a private copy of the office, and says what each would do and who would lose a desk, move, get one, join or leave. Then
+it imports in order, whole or not at all.
 """, changes=True)
 def take(parser: command.Parser) -> command.Plan:
     from commands import programs
     from exam_desk import coding
     given = given_source(parser, "--yes: do not ask", "--codes: make access codes for candidates who have none")
-    reading = read_source(command.existing_office(), given)
-    if given.codes:
-        coding.add_codes(command.office(), reading)
-    print_lines(reading, given.all)
-    return programs.Asked(steps=coding.steps_of(reading), title=f"take {os.path.basename(os.path.abspath(given.source))}",
+    steps = coding.steps_of(read_source(command.existing_office(), given))
+    return programs.Asked(steps=steps, title=f"take {os.path.basename(os.path.abspath(given.source))}",
                           most=None if given.all else programs.MOST_NAMED, is_agreed=given.yes)
 
 
@@ -204,8 +186,7 @@ def take(parser: command.Parser) -> command.Plan:
     office template school.xlsx
 
 Its cells have the format text, so that no spreadsheet changes what is typed; each header says in a comment what its
-column takes, and codes are chosen from lists. The row that begins with `e.g.` is an example, which `office read`
-leaves out.
+column takes. The row that begins with `e.g.` is an example, which `office read` leaves out.
 """)
 def template(parser: command.Parser) -> None:
     from exam_desk.workbook.reading import put_workbook
