@@ -97,7 +97,7 @@ class TestBroughtBack(Backups):
         empty = os.path.join(self.folder, "empty.db")
         self.office("init", OFFICE=empty)
         page, _ = self.browser.send(*BRING, ("empty.zip", zipped({
-            name: pathlib.Path(empty + name[8:]).read_bytes() for name in ("office.db", "office.db-wal")})))
+            name: pathlib.Path(empty + name[9:]).read_bytes() for name in ("office.db", "office.db-wal")})))
         self.assertIn("only 0 of the 60 candidates", self.browser.words(page))
         self.put_back(page, 422)
         for name in parts:
