@@ -15,7 +15,7 @@ from exam_desk import appeals, beside, files, notebook, private, running
 from exam_desk.office import Office, Trouble
 from exam_desk.words import Said, plain
 
-MOST_COPIES = 50
+MOST_COPIES, MOST_DAYS = 50, 30  # from before changes, and of days
 MOST_BYTES = 1 << 30
 MOST_LETTERS, MOST_TITLE = 100, 400  # of a command in the name of a copy, and in its title
 PLACE, TITLE = "copies", "title"  # of copies, of the command in one
@@ -45,12 +45,12 @@ def named(number: int, what: str) -> str:
     return f"{number:06} {datetime.datetime.now():%Y-%m-%d %H.%M.%S.%f} {what}"
 
 
-def keep_day(office: Office, day: datetime.date, most: int) -> str | None:
+def keep_day(office: Office, day: datetime.date) -> str | None:
     """Copies the office for a day that has no copy; gives its path. The last days stay, and none that is to come."""
     if os.path.lexists(beside.folder(office.path, beside.DAYS, day.isoformat())):
         return None
     copy = make(office, beside.DAYS, day.isoformat())
-    for old in sorted(folders(office, beside.DAYS, DAY), key=lambda path: (path == copy, path <= copy, path))[:-most]:
+    for old in sorted(folders(office, beside.DAYS, DAY), key=lambda path: (path == copy, path <= copy, path))[:-MOST_DAYS]:
         drop(old)
     return copy
 

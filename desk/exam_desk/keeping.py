@@ -61,8 +61,8 @@ def say(text: object) -> None:
 class Keep:
     """Serves through a `Hold` until a signal or `office keep stop` ends it."""
 
-    def __init__(self, office: Office, place: str, days: int, lock: FileIO) -> None:
-        self.office, self.place, self.days, self.lock = office, place, days, lock
+    def __init__(self, office: Office, place: str, lock: FileIO) -> None:
+        self.office, self.place, self.lock = office, place, lock
         self.hold = hold.Hold()
         self.ending = False
         self.day = office.today()  # for which it serves
@@ -162,7 +162,7 @@ class Keep:
     def keep_day(self) -> None:
         """Keeps a copy of the office at each new day, and the last of them."""
         try:
-            if path := copies.keep_day(self.office, self.day, self.days):
+            if path := copies.keep_day(self.office, self.day):
                 say(f"copy of the day in {path}")
         except (OSError, Trouble) as fault:
             say(f"no copy of the day: {fault.strerror if isinstance(fault, OSError) and fault.strerror else fault}")
@@ -212,15 +212,20 @@ def make_room(path: str) -> None:
     pathlib.Path(path).unlink(missing_ok=True)
 
 
-def run(office: Office, place: str, days: int) -> None:
+def place_of(given: str) -> str:
+    """A port, or the path of the socket in a folder; nothing where it is neither."""
+    if given.isascii() and given.isdigit() and 1 <= int(given) <= 65535:
+        return str(int(given))
+    return os.path.join(os.path.abspath(given), SOCKET) if os.path.isdir(given) else ""
+
+
+def run(office: Office, place: str) -> None:
     """Serves until a signal ends it. Raises `Trouble` where another `keep` serves the office."""
     signal.signal(signal.SIGUSR1, signal.SIG_IGN)  # a command that comes before the handler need not step it aside
     with turns.lock_file(office, "keep.lock") as lock:
         if not turns.try_lock(lock, lock=fcntl.lockf):
             raise Trouble(RUNS)
-        turns.note(lock, "")  # of the one before, which may have been killed
-        asyncio.run(Keep(office, place, days, lock).run())
-        turns.note(lock, "")  # what stays there was said by one that was killed
+        asyncio.run(Keep(office, place, lock).run())
 
 
 def start(office: Office, line: Sequence[str]) -> Status:

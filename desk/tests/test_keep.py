@@ -186,7 +186,7 @@ class Beginning(sample.SampleSchool):
         program = self.write("program", "#!/bin/sh\necho first >&2\necho refused 24 >&2\nexit 1\n")
         os.chmod(program, 0o700)
         with turns.lock_file(self.value, "keep.lock") as lock, mock.patch("exam_desk.keeping.say") as say:
-            keep = keeping.Keep(dataclasses.replace(self.value, program=program), "8080", 2, lock)
+            keep = keeping.Keep(dataclasses.replace(self.value, program=program), "8080", lock)
             self.assertEqual(asyncio.run(keep.served()), "serve ended with status 1: refused 24")
         self.assertEqual([call.args[0] for call in say.mock_calls[1:]], ["first", "refused 24"])
 
@@ -202,7 +202,7 @@ class Beginning(sample.SampleSchool):
 class NewDay(sample.SampleSchool):
     def test_a_copy_that_cannot_be_kept_is_said_and_tried_again(self):
         with turns.lock_file(self.value, "keep.lock") as lock, mock.patch("exam_desk.keeping.say") as say:
-            keep = keeping.Keep(self.value, "8080", 2, lock)
+            keep = keeping.Keep(self.value, "8080", lock)
             with mock.patch.object(keeping.copies, "keep_day", side_effect=OSError(28, "No space left on device")):
                 keep.keep_day()
             say.assert_called_once_with("no copy of the day: No space left on device")
@@ -211,7 +211,7 @@ class NewDay(sample.SampleSchool):
 
     def test_a_new_day_is_served_with_its_date_and_a_copy_also_where_the_clock_goes_back(self):
         today = mock.Mock(return_value=datetime.date(2027, 5, 1))
-        with mock.patch("exam_desk.keeping.say") as say:
+        with mock.patch("exam_desk.keeping.say") as say, mock.patch("exam_desk.copies.MOST_DAYS", 2):
             asyncio.run(self.days(dataclasses.replace(self.value, today=today), today))
         self.assertEqual(sorted(os.listdir(os.path.join(self.desk, "days"))), ["2027-05-02", "2027-05-03"])
         self.assertEqual([text for call in say.mock_calls if (text := call.args[0]).startswith("the day")],
@@ -219,7 +219,7 @@ class NewDay(sample.SampleSchool):
                           "the day is 2027-05-02 now"])
 
     async def days(self, office, today):
-        keep = keeping.Keep(office, str(sample.free_port()), 2, turns.lock_file(office, "keep.lock"))
+        keep = keeping.Keep(office, str(sample.free_port()), turns.lock_file(office, "keep.lock"))
         served = asyncio.create_task(keep.run())
         for day in (1, 2, 3, 2):
             today.return_value = datetime.date(2027, 5, day)

@@ -453,7 +453,7 @@ class Back(sample.SampleSchool):
         self.assertFalse(os.path.exists(self.path + "-wal"))
         self.assertEqual(self.office("check"), "good\n")
         os.remove(self.path + "-wal")  # as `back` leaves it, so the copies of the desk have no second file either
-        for copy in (copies.keep_copy(self.value, "x"), copies.keep_day(self.value, self.value.today(), 1)):
+        for copy in (copies.keep_copy(self.value, "x"), copies.keep_day(self.value, self.value.today())):
             self.assertFalse(os.path.exists(f"{copy}/office.db-wal"))
             self.assertEqual(self.office("check", OFFICE=f"{copy}/office.db"), "good\n")
 
