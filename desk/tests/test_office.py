@@ -403,7 +403,7 @@ class Back(sample.SampleSchool):
         self.assertEqual(self.office("check"), "good\n")
         done = self.run_office("back", "one")
         self.assertEqual((done.returncode, done.stdout), (2, ""))
-        self.assertIn("'one' is no number of a copy; `office back` lists them\n", done.stderr)
+        self.assertIn("argument NUMBER: invalid int value: 'one'\n", done.stderr)
 
     def test_an_import_is_listed_with_its_file(self):
         os.mkdir(os.path.join(self.folder, "files"))

@@ -45,7 +45,7 @@ class WhatIf(test_changing.Changing):
         self.assertIn("`office back` changes no seat; ", self.refused("what-if", "back"))
         done = self.run_office("what-if", "back", "x")
         self.assertEqual((done.returncode, done.stdout), (2, ""))
-        self.assertIn("'x' is no number of a copy; `office back` lists them", done.stderr)
+        self.assertIn("argument NUMBER: invalid int value: 'x'", done.stderr)
         self.assertEqual(self.office("what-if", "back", "1", "--yes"), self.office("what-if", "back", "1"))
         [copy] = self.kept()
         with contextlib.closing(sqlite3.connect(os.path.join(copy, "office.db"))) as file:
