@@ -245,15 +245,11 @@ def of_program(words: list[str]) -> Change | None:
     first = 2 if words[1:2] == ["--"] else 1
     if words[0] in NUMBERED:
         words = [*words[:first], *map(typed.number, words[first:first + 1]), *words[first + 1:]]
-    return Change(steps=[Step(tuple(words), rows_given(words))])
-
-
-def rows_given(words: Sequence[str]) -> bytes | None:
-    """The bytes of an import's file, before the office is taken; None where it cannot be read, as the program says."""
     _, path = refusals.imported(words) or ("", "")
-    with contextlib.suppress(OSError):
-        return files.read(path, command.warn)
-    return None
+    data = None
+    with contextlib.suppress(OSError):  # the program says so of an import
+        data = files.read(path, command.warn)  # before the office is taken
+    return Change(steps=[Step(tuple(words), data)])
 
 
 def of_list(name: str, path: str) -> List:

@@ -230,24 +230,18 @@ def put_back(office: Office, copy: str) -> str | None:
 
 
 def losses(office: Office, copy: str) -> list[Said]:
-    """What is said of each thing that the office has and a copy has not; nothing where there is no office."""
+    """What is said of each thing that the office has and a copy has not, and first whether it may be another school's;
+    nothing where there is no office. A copy from before the first import has no candidate, and is this office's."""
     if not os.path.exists(office.path):
         return []
     try:
         with attached(office, copy) as both:
-            return [*of_others(copy, both), *appeals.lost(both)]
+            candidates, brought, alike = both.execute(CANDIDATES).fetchone()
+            lost = appeals.lost(both)
     except (OSError, sqlite3.Error):
         return [Said(UNKNOWN, {})]
-
-
-def of_others(copy: str, both: sqlite3.Connection) -> list[Said]:
-    """Why a copy may be another school's; nothing where it is not, or nobody can say. One from before the first import
-    has no candidate, and is this office's all the same."""
-    with contextlib.suppress(sqlite3.Error):
-        candidates, brought, alike = both.execute(CANDIDATES).fetchone()
-        if 2 * alike < (candidates if is_brought(copy) else min(candidates, brought)):
-            return [Said(OTHERS, {"alike": alike, "candidates": candidates})]
-    return []
+    is_other = 2 * alike < (candidates if is_brought(copy) else min(candidates, brought))
+    return [Said(OTHERS, {"alike": alike, "candidates": candidates}), *lost] if is_other else lost
 
 
 @contextlib.contextmanager

@@ -53,7 +53,6 @@ CAUSES = ("its folder is not there, or nothing can be written there; you may not
 MOST_LINES = 5  # on one column of an import file
 WITHDRAWN = 9  # the refusal of a second withdrawal
 MAYBE_DONE = (22, 23)  # after these a command is there whole or not at all
-DONE_ALREADY = {"withdraw": WITHDRAWN, "reinstate": 10}  # refusals by command
 WHOLE_OR_NOT = "a command is there whole or not at all: look, or give it again"
 
 
