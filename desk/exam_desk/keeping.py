@@ -104,16 +104,12 @@ class Keep:
         """Serves until a command wants the office, the day or `keep` ends, or `serve` fails; gives the fault, or ""."""
         with (turns.lock_file(self.office, "turn.lock") as turn, turns.lock_file(self.office, "want.lock") as want,
               turns.lock_file(self.office, "office.lock") as office):
-            await self.locked(want, turn)
-            await self.locked(office, turn)
+            for lock in want, office:
+                while not self.ending and not turns.try_lock(lock):
+                    if self.hold.asked > self.hold.answered:
+                        turns.try_lock(turn)
+                    await asyncio.sleep(turns.PAUSE)
             return "" if self.ending else await self.serve_once(want, turn)
-
-    async def locked(self, file: FileIO, turn: FileIO) -> None:
-        """Waits until a lock is had or `keep` ends."""
-        while not self.ending and not turns.try_lock(file):
-            if self.hold.asked > self.hold.answered:
-                turns.try_lock(turn)
-            await asyncio.sleep(turns.PAUSE)
 
     async def serve_once(self, want: FileIO, turn: FileIO) -> str:
         """Runs one `serve`, with the office alone; gives its fault, or "". No length of a night is reckoned, so a
