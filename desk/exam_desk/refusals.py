@@ -47,9 +47,9 @@ OTHER = {
 }
 OF_A_FILE = [1, 2, 3, 4, 5, 6, 7, 20]  # refusals that rows of an import file can bring
 IDLE = ["entries", "arrangements"]  # their rows do nothing where the entry is withdrawn, or a grant is in force
-CAUSES = ("its folder is not there, or nothing can be written there; you may not change it; it is a folder or a pipe; it "
-          "has a second name (a hard link, as some backups make: take a copy of it); a -journal of sqlite3 lies beside it; "
-          "or it was cut short or overwritten: `office back` lists copies")
+CAUSES = ("a process of another user has it; its folder is not there, or nothing can be written there; you may not change "
+          "it; it is a folder or a pipe; it has a second name (a hard link, as some backups make: take a copy of it); a "
+          "-journal of sqlite3 lies beside it; or it was cut short or overwritten: `office back` lists copies")
 MOST_LINES = 5  # on one column of an import file
 WITHDRAWN = 9  # the refusal of a second withdrawal
 MAYBE_DONE = (22, 23)  # after these a command is there whole or not at all

@@ -75,7 +75,7 @@ class NewOffice(test_changing.Changing):
         self.assertEqual((sorted(os.listdir(self.desk)), self.said), (before, []))
 
     def test_where_no_folder_is_the_program_says_so(self):
-        self.assertIn("refused 23\n  the database cannot be used now\n  its folder is not there, or ",
+        self.assertIn("refused 23\n  the database cannot be used now\n  a process of another user has it; its folder is not there, or ",
                       self.refused("init", OFFICE=os.path.join(self.folder, "none", "office.db")))
 
     def test_where_nothing_was_left_nothing_is_said(self):
