@@ -21,14 +21,13 @@ from dataclasses import dataclass
 from io import FileIO
 from typing import NamedTuple
 
-from exam_desk import (beside, copies, files, lists, logbook, notebook, private, refusals, running, snapshot,
-                       titles, turns)
+from exam_desk import (beside, copies, files, logbook, notebook, private, refusals, running, snapshot, titles,
+                       turns)
 from exam_desk.office import Office, Stale, Trouble
 from exam_desk.words import Said, few
 
 PAUSE = 0.2  # seconds from one try to the next
 MOST_NAMED = 3  # sessions, candidates, papers or halls in the title of a change
-HELD = "SELECT (SELECT count(*) FROM candidate), (SELECT count(*) FROM session)"
 Tell = Callable[[str], None]  # hears which step begins
 
 
@@ -146,7 +145,8 @@ def carry_out(office: Office, steps: Sequence[Step], made_from: str | None = Non
     """
     office.today()  # a day that is none is said before anything begins
     if not os.path.isfile(office.path):  # the program says so
-        return Carried([Answered(steps[0], run_patiently(office, steps[0]))], None, None)
+        ran = running.run_over(office, office.path, *steps[0].words, data=steps[0].data)
+        return Carried([Answered(steps[0], ran)], None, None)
     title = title or ", ".join(step.title() for step in steps)
     with unchanged(office), turn(office, title, made_from) as lock, copied(office, title) as copy:
         if len(steps) == 1:
@@ -214,14 +214,14 @@ def unchanged(office: Office) -> Iterator[None]:
 
 
 def run_patiently(office: Office, step: Step, lock: FileIO | None = None, copy: str = "") -> running.Ran:
-    """Runs the program over the office, and tries again for some time while another command has the file; not where the
-    step is there all the same, by the copy from before it."""
-    until = time.monotonic() + turns.PATIENCE
+    """Runs the program over the office, and again while waiting may help; not where the step is there all the same, by
+    the copy from before it."""
+    began = time.monotonic()
     while True:
         ran = running.run_over(office, office.path, *step.words, data=step.data, lock=lock)
-        with contextlib.suppress(OSError):  # what it looks at goes away just then
-            if refusals.number_of(ran.complaint) != 23 or time.monotonic() > until or not refusals.may_pass(office):
-                return ran
+        if refusals.number_of(ran.complaint) != 23 or time.monotonic() - began > refusals.patience(office):
+            return ran
+        with contextlib.suppress(OSError):  # the file is gone just then
             if copy and not copies.is_as_now(office, copy):
                 return ran
         time.sleep(PAUSE)
@@ -303,21 +303,16 @@ def way_back(copy: str) -> str:
 
 
 def way_on(office: Office, found: logbook.Unfinished) -> str:
-    """What is said of a change without an end in the log."""
-    what = f"`{found.command}` of {found.when}"
-    if not found.copy:
-        return f"{what} has no end in the log: it is there whole or not at all; look"
+    """What is said of a change without an end in the log: how far it came, and which copy takes it back."""
+    what = f"`{found.command}` of {found.when} was broken off"
     copy = beside.folder(office.path, copies.PLACE, found.copy)
-    count = found.count and f", after {found.count} at least"
-    behind = (f" behind `{found.done}`{count}" if found.done else " in its first step" if found.begun else
-              ", and is done")
-    if copy not in copies.listed(office):
-        return f"{what} was broken off{behind if found.begun else ''}; its copy is gone"
+    if not found.copy or copy not in copies.listed(office):
+        return f"{what}, and there is no copy from before it: look what is done"
     with contextlib.suppress(Trouble):
         if state_of(office) == snapshot.name_now(office, copies.file_in(office, copy)):
-            is_undone = found.begun or copies.is_as_now(office, copy)  # an appeal that is refused is in no state's name
-            return f"{what} was broken off; {'nothing of it is left' if is_undone else 'give it again'}"
-    return f"{what} was broken off{behind}: {way_back(copy)}"
+            return f"{what}, and the office is as before: give it again"
+    count = found.count and f", after {found.count} at least"
+    return f"{what} behind `{found.done or found.begun or found.command}`{count}: {way_back(copy)}"
 
 
 def make_new(office: Office) -> running.Ran:
@@ -331,11 +326,8 @@ def make_new(office: Office) -> running.Ran:
             return running.run_over(office, office.path, *NEW.words)
         if os.path.exists(office.path):
             ran = run_patiently(office, NEW, lock)
-            with contextlib.suppress(Trouble), snapshot.rows(office) as rows:
-                candidates, sessions = rows.execute(HELD).fetchone()
-                if ran.status == 0 and (candidates or sessions):
-                    office.warn(f"NOTE the office is there already, with {lists.count(candidates, 'candidate')} and "
-                                f"{lists.count(sessions, 'session')}: nothing is changed")
+            if ran.status == 0:
+                office.warn("NOTE the office was there already: nothing is changed")
             return ran
         aside, held = notebook.set_aside(office)
         try:

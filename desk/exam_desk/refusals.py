@@ -1,14 +1,12 @@
-"""What a refusal of the program means, in words; for an import with the line and the value; for 23 with its cause."""
+"""What a refusal of the program means, in words; for an import with the line and the value; for 23 with who has the
+file."""
 import contextlib
 import glob
 import os
 import re
-import shutil
-import stat
-import tempfile
 from collections.abc import Sequence
 
-from exam_desk import beside, files, turns
+from exam_desk import files, turns
 from exam_desk.office import Office, NoOffice, Trouble
 from exam_desk.words import plain
 
@@ -35,7 +33,9 @@ SENTENCES = {
     20: "a limit would be passed, or the file is too long; the handbook lists the limits",
     21: "an earlier appeal of this kind for this session is still open; decide it first",
     22: "the machine is out of memory; try again when it has some",
-    23: "the database cannot be used now",
+    23: "the database cannot be used now: another process has it; or the file, or its folder, may not be written, by its "
+        "permissions or on a full disk; or it has a second name (a hard link, as some backups make: take a copy of it), "
+        "or a -journal lies beside it; or it is a folder, a pipe or no whole database (`office back` lists copies)",
     24: "the file is not there, or holds no office or one with bad rows; `office check` names the bad table, "
         "`office init` makes a new office, `office back` lists copies",
     25: "the hall is not open for this session; check both codes, or import openings",
@@ -53,9 +53,9 @@ IDLE = ["entries", "arrangements"]  # their rows do nothing where the entry is w
 NO_CODE = ("`office codes FILE` fills in the codes that the office has, and new ones; for another name alone take "
            "`office name NUMBER NAME`")
 MOST_LINES = 5  # on one column of an import file
-WITHDRAWN = 9  # the refusal of a second withdrawal
+MOST_SHOWN = 200  # letters of the words of a process
 MAYBE_DONE = (22, 23)  # after these a command is there whole or not at all
-DONE_ALREADY = {"withdraw": WITHDRAWN, "reinstate": 10}  # refusals by command
+DONE_ALREADY = {"withdraw": 9, "reinstate": 10}  # refusals by command
 WHOLE_OR_NOT = "a command is there whole or not at all: look, or give it again"
 
 
@@ -72,12 +72,8 @@ def explained(office: Office, words: Sequence[str], complaint: str, data: bytes 
     number = number_of(answer)
     sentence = SENTENCES.get(number or 0) or OTHER.get(answer)
     lines = [sentence] if sentence else []
-    if number == 23:
-        lines = [f"{sentence}: {cause(office)}", WHOLE_OR_NOT]
-    elif number == 22:
-        lines.append(WHOLE_OR_NOT)
-    elif number == WITHDRAWN and words[0] == "withdraw":
-        lines += sat_later(office, *words[-2:])
+    if number in MAYBE_DONE:
+        lines += [*(f"{each} has it" for each in filter(None, [holder(office)]) if number == 23), WHOLE_OR_NOT]
     elif number == 24 and not os.path.exists(office.path):
         lines = [str(NoOffice(office.path))]
     elif answer == "file fault" and words[0] == "import":
@@ -85,15 +81,6 @@ def explained(office: Office, words: Sequence[str], complaint: str, data: bytes 
     elif number in OF_A_FILE or not answer:
         lines += mistakes_of(office, words, data, not answer)
     return [f"  {plain(line)}" for line in lines]
-
-
-def sat_later(office: Office, number: str, paper: str) -> list[str]:
-    """What is said of an entry that is withdrawn, since the candidate has a second sitting of the paper."""
-    from exam_desk import second_sitting, snapshot  # here, since a refusal alone needs them
-    with contextlib.suppress(Trouble), snapshot.rows(office) as rows:
-        return [f"{number} sits it in {row['session']}, as {row['code']}: `office withdraw {number} {row['code']}` "
-                "withdraws that" for row in second_sitting.sat_later(rows, number, paper)]
-    return []
 
 
 def imported(words: Sequence[str]) -> tuple[str, str] | None:
@@ -117,77 +104,19 @@ def mistakes_of(office: Office, words: Sequence[str], data: bytes | None, is_don
     return []
 
 
-def lasting_cause(office: Office) -> str | None:
-    """Why the file cannot be used, where waiting does not help; None where nothing of that kind is found."""
-    path = office.path
-    place = os.path.dirname(os.path.realpath(path))
-    try:
-        found = os.stat(path)
-    except OSError as fault:
-        return no_writing(path, place) or f"{path}: {fault.strerror}"
-    if not stat.S_ISREG(found.st_mode):
-        return f"{path} {beside.NO_FILE}"
-    if found.st_nlink > 1:
-        return f"{path} has a second name (a hard link, as some backups make): copy the file and take the copy"
-    if os.path.lexists(f"{path}-journal"):
-        return f"{path}-journal lies beside the file: sqlite3 was stopped in a change; open the file there, or move it"
-    for name in (path, path + "-wal"):
-        if os.path.exists(name) and not os.access(name, os.R_OK | os.W_OK):
-            owner = os.stat(name).st_uid
-            way = f": `chmod u+rw {name}`" * (owner == os.geteuid())
-            return f"no permission to change {name}; it belongs to {beside.user_name(owner)}{way}"
-    return no_writing(path, place) or damage(path)
-
-
-def no_writing(path: str, place: str) -> str | None:
-    try:
-        with tempfile.TemporaryFile(dir=place) as file:
-            file.write(bytes(1 << 18))
-            file.flush()
-    except OSError as fault:
-        return f"nothing can be written in the folder {place}: {fault.strerror}{beside.room(path, fault)}"
-    return None
-
-
-def damage(path: str) -> str | None:
-    """What is wrong with the head of the file, or of the file beside it."""
-    with open(path, "rb") as file:
-        head = file.read(32)
-        size = os.fstat(file.fileno()).st_size
-    page_size = {1: 65536}.get(int.from_bytes(head[16:18], "big"), int.from_bytes(head[16:18], "big"))
-    if size and (not head.startswith(b"SQLite format 3\0") or not page_size):
-        return f"{path} is no database, or its beginning was overwritten; `office back` lists copies"
-    if size and (size % page_size or size < page_size * int.from_bytes(head[28:32], "big")):
-        return f"{path} was cut short; `office back` lists copies"
-    return None
-
-
-def holder(office: Office) -> tuple[int, list[str]] | None:
-    """A process that has the file open, as a pair of its number and its words; None where none is to be seen."""
+def holder(office: Office) -> str:
+    """A process that has the file open, by its number and its words; "" where none is to be seen."""
     for path in glob.iglob("/proc/[0-9]*/fd/*"):  # of another user's process there is none
         process = int(path.split("/")[2])
         with contextlib.suppress(OSError):
             if process != os.getpid() and os.path.samefile(path, office.path):
                 with open(f"/proc/{process}/cmdline", "rb") as line:
-                    return process, line.read().decode("utf-8", "replace").rstrip("\0").split("\0")
-    return None
+                    words = line.read().decode("utf-8", "replace").rstrip("\0").replace("\0", " ")
+                return f"process {process} ({words[:MOST_SHOWN]})"
+    return ""
 
 
-def may_pass(office: Office) -> bool:
-    """Whether waiting may help: another command has the file, and no `serve`, or nothing is to be seen."""
-    found = holder(office)
-    return "serve" not in found[1] if found else lasting_cause(office) is None
-
-
-def cause(office: Office) -> str:
-    """Why the database cannot be used, as far as it can be found out."""
-    found = holder(office)
-    if found is None:
-        return lasting_cause(office) or "no cause is to be seen now; its disk has " \
-            f"{shutil.disk_usage(os.path.dirname(os.path.realpath(office.path))).free >> 10:,} KiB free"
-    process, words = found
-    if (turns.keep_state(office) or {}).get("serve") == process:
-        return f"`keep` serves it (process {process})"
-    if "serve" in words:
-        return f"a `serve` has it (process {process}): stop it, or let `office keep` serve"
-    return f"another command has it (process {process}: {' '.join(words)[:100]})"
+def patience(office: Office) -> int:
+    """For how many seconds waiting may help: another command has the file, and no `serve`; or none is to be seen."""
+    has_it = holder(office)
+    return 0 if re.search(r"\bserve\b", has_it) else turns.PATIENCE if has_it else turns.SILENCE

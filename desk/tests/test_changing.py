@@ -364,7 +364,7 @@ class Killed(Changing):
             self.assertEqual(done.returncode, -signal.SIGKILL)
             said = self.run_office("reinstate", "0001000", "MA-1").stderr
             if kind in ("sessions", "openings"):  # the files before halls change nothing
-                behind = {"sessions": "nothing of it is left", "openings": "behind `import halls halls.csv for "}[kind]
+                behind = {"sessions": "the office is as before: give it again", "openings": "behind `import halls halls.csv for "}[kind]
                 self.assertIn(behind, said)
             self.assertRegex(said, r"^office: `take facts` of \S+ \S+ was broken off")
             if self.state() != before:
@@ -397,11 +397,10 @@ class Killed(Changing):
         self.assertFalse(copies.is_as_now(self.value, f"{copy}-gone"))
         with self.assertRaisesRegex(Trouble, "this copy is gone by now"):
             changing.go_back(self.value, ["back", "1"], f"{copy}-gone", lambda lines: True)
-        for copy, begun, said in (("", "", "has no end in the log: it is there whole or not at all; look"),
-                                  ("gone", "", "was broken off; its copy is gone"),
-                                  ("gone", "b", "was broken off behind `a`; its copy is gone")):
-            found = logbook.Unfinished("today", "back 1", copy, "a", begun)
-            self.assertEqual(changing.way_on(self.value, found), f"`back 1` of today {said}")
+        for copy in "", "gone":
+            found = logbook.Unfinished("today", "back 1", copy)
+            self.assertEqual(changing.way_on(self.value, found), "`back 1` of today was broken off, and there is no copy "
+                                                                 "from before it: look what is done")
 
     def test_a_change_that_is_under_way_is_not_broken_off(self):
         going, may_end = (os.path.join(self.folder, name) for name in ("going", "may_end"))
@@ -449,13 +448,13 @@ class Killed(Changing):
         self.assertEqual(self.run_office("withdraw", "0001000", "MA-1", EXAMOFFICE=program).returncode, -signal.SIGKILL)
         done = self.run_office("reinstate", "0001000", "MA-1")
         self.assertEqual(done.stdout, "reinstated\n", done.stderr)
-        self.assertRegex(done.stderr, "^office: `withdraw 0001000 MA-1` of .* was broken off, and is done: `office back` lists "
+        self.assertRegex(done.stderr, "^office: `withdraw 0001000 MA-1` of .* was broken off behind `withdraw 0001000 MA-1`: `office back` lists "
                                       "the copy of .*, before withdraw 0001000 MA-1, and puts it back\n")
 
     def test_a_single_change_that_is_killed_before_it_is_done(self):
         path = self.write("late.csv", "number,paper\n0001000,FR\n")
         self.broken_off("import", "entries", path, before="import entries")
-        said = f"^office: `import entries {path} for 0001000 FR` of .* was broken off; nothing of it is left\n"
+        said = f"^office: `import entries {path} for 0001000 FR` of .* was broken off, and the office is as before: give it again\n"
         for words in (("look", "1000"), ("withdraw", "0001000", "MA-1")):
             self.assertRegex(self.run_office(*words).stderr, said)
 
@@ -469,8 +468,8 @@ class Killed(Changing):
         self.change(APPEAL, "HA1", 1)
         program = self.program(f'[ "$2 $5" = "{self.path} decide" ] && {sample.built_program()} "$@" && kill -9 $PPID && exit 9')
         self.run_office("decide", "0001051", "HA1", "refused", "no", EXAMOFFICE=program)
-        self.assertRegex(self.run_office("look", "1000").stderr, "^office: `decide 0001051 HA1 refused` of .* was broken off; "
-                                                                "give it again\n")
+        self.assertRegex(self.run_office("look", "1000").stderr, "^office: `decide 0001051 HA1 refused` of .* was broken off, "
+                                                                "and the office is as before: give it again\n")
 
     def test_at_any_time(self):
         self.assertEqual(kill_often(self, ["take", self.facts(), "--yes"], KILLS, SEED).total(), KILLS)

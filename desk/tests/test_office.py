@@ -12,13 +12,12 @@ import sys
 import time
 import unittest
 from concurrent.futures import ThreadPoolExecutor
-from contextlib import closing, redirect_stderr, suppress
-from dataclasses import replace
+from contextlib import closing, redirect_stderr
 from unittest import mock
 
 import sample
 import command
-from exam_desk import copies, refusals
+from exam_desk import copies, refusals, turns
 
 
 class Faults(unittest.TestCase):
@@ -294,7 +293,7 @@ class Words(sample.SampleSchool):
         self.assertIn("\nno hall of the office has all of reader, computer: needed by 1 candidate\nwhat could help",
                       self.office("why", "MON-AM"))
         tried = text.partition("what could help; only the program knows what it comes to, so try it:\n")[2].split("\n")
-        self.assertEqual(tried[0], "  office what-if open-hall TUE-AM LIB 4 14:00 --reserved  # could seat 2 of 2; now 2 desks "
+        self.assertEqual(tried[0], "  office what-if open-hall TUE-AM LIB 4 14:00 --reserved  # could seat up to 2 of 2; now 2 desks "
                                    "until 14:00, reserved")
         self.assertIn("\n2 get desks\n", self.office(*tried[0].partition("#")[0].split()[1:]))
         self.assertEqual(tried[-1:], [""])
@@ -316,62 +315,33 @@ class Words(sample.SampleSchool):
 
 
 class Causes(sample.SampleSchool):
-    def cause(self):
+    def causes(self):
+        """What is said below refusal 23: its causes, who has the file, if somebody has it, and that nothing is lost."""
         lines = self.refused("withdraw", "0001000", "MA-1").split("\n")
-        self.assertEqual(lines[0], "refused 23")
-        self.assertEqual(lines[2:], ["  a command is there whole or not at all: look, or give it again", ""])
+        self.assertEqual(lines[:2], ["refused 23", f"  {refusals.SENTENCES[23]}"])
+        self.assertEqual(lines[-2:], ["  a command is there whole or not at all: look, or give it again", ""])
         self.assertFalse(os.listdir(os.path.join(self.desk, "copies")))
-        return lines[1]
+        return lines[2:-2]
 
     def test_a_second_hard_link(self):
         os.link(self.path, os.path.join(self.folder, "other.db"))
-        self.assertIn("has a second name", self.cause())
-
-    def test_a_file_that_one_may_not_change(self):
-        """The user to whom it belongs can give the permission."""
-        with mock.patch("os.access", return_value=False), mock.patch("exam_desk.beside.user_name", return_value="ada"):
-            for user, cure in ((os.getuid(), f": `chmod u+rw {self.path}`"), (os.getuid() + 1, "")):
-                with mock.patch("os.geteuid", return_value=user):
-                    self.assertEqual(refusals.lasting_cause(self.value),
-                                     f"no permission to change {self.path}; it belongs to ada{cure}")
-
-    def test_without_a_cause_the_room_of_the_disk_is_said(self):
-        """The copy from before the change is gone by then, and its room is free again."""
-        with mock.patch("shutil.disk_usage", return_value=mock.Mock(free=300 << 10)):
-            self.assertEqual(refusals.cause(self.value), "no cause is to be seen now; its disk has 300 KiB free")
-
-    def test_a_folder_in_which_one_may_not_write(self):
-        for path in (os.path.join(self.folder, "new.db"), self.path):
-            with mock.patch("tempfile.TemporaryFile", side_effect=PermissionError(13, "Permission denied")):
-                self.assertEqual(refusals.lasting_cause(replace(self.value, path=path)), "nothing can be written in the "
-                                 f"folder {os.path.realpath(self.folder)}: Permission denied")
+        self.assertEqual(self.causes(), [])
 
     def test_a_folder_and_a_pipe(self):
         pipe = os.path.join(self.folder, "pipe.db")
         os.mkfifo(pipe)
-        for path, text in [(self.folder, "is no file, but a folder"), (pipe, "is no file")]:
+        for path in self.folder, pipe:
             for words in (["check"], ["shortage", "MON-AM"], ["withdraw", "0001000", "MA-1"]):
-                self.assertIn(text, self.refused(*words, OFFICE=path))
+                self.assertIn("it is a folder, a pipe or no whole database", self.refused(*words, OFFICE=path))
         self.assertIn("is no file", self.refused("why", "MON-AM", OFFICE=pipe))
         self.assertFalse(os.path.exists(os.path.join(self.folder, "desk-pipe.db")))
-
-    def test_a_journal(self):
-        self.write("office.db-journal", "x")
-        self.assertIn("office.db-journal lies beside", self.cause())
-
-    def test_a_file_cut_short(self):
-        with open(self.path, "r+b") as file:
-            file.truncate(os.path.getsize(self.path) - 100)
-        with suppress(FileNotFoundError):
-            os.remove(self.path + "-wal")
-        self.assertIn("was cut short", self.cause())
 
     def test_a_serve(self):
         line = [sample.built_program(), "--db", self.path, "--today", sample.TODAY, "serve", str(sample.free_port())]
         with subprocess.Popen(line, stdout=subprocess.PIPE) as process:
             try:
                 process.stdout.readline()
-                self.assertIn(f"a `serve` has it (process {process.pid})", self.cause())
+                self.assertEqual(self.causes(), [f"  process {process.pid} ({' '.join(line)}) has it"])
                 self.assertIn("unseated 2", self.office("shortage", "MON-AM"))  # a sheet is made from a copy
             finally:
                 process.terminate()
@@ -392,14 +362,12 @@ class Causes(sample.SampleSchool):
     def test_who_has_the_file_is_named(self):
         with open(self.path, "rb") as file, subprocess.Popen(["sleep", "60"], stdin=file) as process:
             sample.until(lambda: refusals.holder(self.value))
-            self.assertEqual(refusals.cause(self.value), f"another command has it (process {process.pid}: sleep 60)")
-            with mock.patch("exam_desk.turns.keep_state", return_value={"pid": 1, "serve": process.pid}):
-                self.assertEqual(refusals.cause(self.value), f"`keep` serves it (process {process.pid})")
+            self.assertEqual(refusals.holder(self.value), f"process {process.pid} (sleep 60)")
+            self.assertEqual(refusals.patience(self.value), turns.PATIENCE)
             process.kill()
 
     def test_what_was_overwritten(self):
         self.write("office.db", b"x" * 4096)
-        self.assertIn("is no database, or its beginning was overwritten", refusals.lasting_cause(self.value))
         for words, data in ((["withdraw", "0001000", "MA-1"], None), (["import", "halls", "h.csv"], b"hall,title,features\n")):
             number = 9 if data is None else 1
             self.assertEqual(refusals.explained(self.value, words, f"refused {number}", data),
@@ -539,8 +507,8 @@ class Back(sample.SampleSchool):
             file.rollback()
         done = self.run_office("withdraw", "0001000", "MA-1")
         self.assertEqual((done.stdout, done.returncode), ("withdrawn\n", 0))
-        self.assertRegex(done.stderr, "^office: `import entries .*/late.csv for 0001000 FR` of .* was broken off; "
-                                      "nothing of it is left\n1 leaves a session: ")
+        self.assertRegex(done.stderr, "^office: `import entries .*/late.csv for 0001000 FR` of .* was broken off, "
+                                      "and the office is as before: give it again\n1 leaves a session: ")
         self.assertEqual(self.office("reinstate", "0001000", "MA-1"), "reinstated\n")
 
 
