@@ -82,10 +82,10 @@ def would_do(office: Office, texts: Mapping[str, bytes], tell: Tell, progress: P
             with (Reading(office, rehearsal.before, progress) as before,
                   Reading(office, rehearsal.after, progress) as after):
                 done = effects.Effects(before, after)
-                met = {kind: people for kind, people in effects.groups(done).items()
+                met = {kind: people for kind, people in done.met.items()
                        if kind not in (effects.TWICE, effects.HALLS)}
-                found = [*effects.short_at_first(before, after), *effects.brief(met),
-                         *effects.other_codes(done), *overlaps.lines(after, overlaps.found(after))]
+                found = [*effects.headlines(met), *done.without_a_desk(),
+                         *overlaps.lines(after, overlaps.found(after))]
         return [f"once imported: {line}" for line in found]
     except (Trouble, OSError, sqlite3.Error, MemoryError) as fault:
         return [f"nobody can say what the files would do: {plain(fault) or 'there is no memory'}"]

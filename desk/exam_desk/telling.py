@@ -20,9 +20,6 @@ HEADER = ["tell", "session", "number", "name", *(f"old {name}" for name in COLUM
           "hall title", "old name", "also"]
 KINDS = {  # in which ways a change meets people, sessions and halls, the gravest first; of one, and of several
     "over": ("session that is over is changed", "sessions that are over are changed"),
-    "past": ("session lies in the past: last year's date?", "sessions lie in the past: last year's dates?"),
-    "opened": ("hall that was closed is open again", "halls that were closed are open again"),
-    "shut": ("hall is closed when its session begins", "halls are closed when their sessions begin"),
     "loses": ("loses the desk", "lose their desks"), "needs": ("loses a need", "lose needs"),
     "lacks": ("joins a session without a desk", "join a session without a desk"),
     "clashes": ("has a new clash", "have new clashes"),
@@ -34,6 +31,7 @@ KINDS = {  # in which ways a change meets people, sessions and halls, the graves
     "gets": ("gets a desk", "get desks"), "leaves": ("leaves a session", "leave a session"),
     "joins": ("joins a session", "join a session"), "misses": ("has other clashes", "have other clashes"),
     "desk": ("has another desk in the same hall", "have other desks in the same hall"),
+    "codes": ("has another access code", "have other access codes"),
 }
 TO_TELL, DESK_ALONE = ("to tell",) * 2, ("with another desk only",) * 2
 
@@ -58,8 +56,6 @@ NEIGHBOURS = (  # whoever sits in a hall with one of the numbers, before or afte
     "UNION SELECT session, hall FROM after.seat WHERE number IN numbers) "
     "SELECT session, printf('%07d', number) FROM before.seat JOIN halls USING (session, hall) "
     "UNION SELECT session, printf('%07d', number) FROM after.seat JOIN halls USING (session, hall)")
-RENAMED = ("SELECT printf('%07d', number) FROM before.candidate AS was JOIN after.candidate AS later USING (number) "
-           "WHERE was.name <> later.name")
 MOMENTS = ("before", "after")
 CHANGED = ["sessions", "papers", "halls", "openings", "arrangements"]  # kinds of rows of which other values are said
 Touched = dict[str, set[str] | None]  # by session the numbers; None for all of its members
@@ -141,8 +137,8 @@ def columns(sitting: Sitting | None) -> list[str]:
 
 
 def touched(before: Reading, after: Reading, with_past: bool = False) -> Touched:
-    """The sessions in order, each with those whom the change can meet there. Of sessions that are over, and that only
-    arrangements change, these are those with another name, unless the past is asked for, too."""
+    """The sessions in order, each with those whom the change can meet there. A session that is over, and that no row
+    names, is left out unless the past is asked for, too: another arrangement or name comes too late for it."""
     people: dict[str, set[str]] = defaultdict(set)
     with contextlib.closing(sqlite3.connect(":memory:")) as both:
         both.execute("PRAGMA temp_store = MEMORY")  # reasons of appeals are in no file of others
@@ -151,15 +147,13 @@ def touched(before: Reading, after: Reading, with_past: bool = False) -> Touched
         both.execute("CREATE TEMP TABLE numbers (number PRIMARY KEY)")
         found = {table: sessions_of(both, table) for table in SESSIONS}
         numbers = {number for number, in both.execute("SELECT printf('%07d', number) FROM numbers")}
-        renamed = {number for number, in both.execute(RENAMED)}
         for session, number in both.execute(NEIGHBOURS):
             people[session].add(number)
     sessions, whole = set().union(*found.values()), set().union(*(found[table] for table in OF_ALL))
     named = set().union(*(found[table] for table in SESSIONS if table not in OF_NO_SESSION))
-    past = {code for code, day, _ in facts.sessions(after.rows)
-            if code in found["arrangement"] - named and after.office.is_over(day) and not with_past}
-    return {code: renamed if code in past else None if code in whole else numbers | people[code]
-            for code in all_sessions(before, after) if code in sessions - (past - found["candidate"])}
+    past = {code for code, day, _ in facts.sessions(after.rows) if after.office.is_over(day) and not with_past}
+    return {code: None if code in whole else numbers | people[code]
+            for code in all_sessions(before, after) if code in sessions - (past - named)}
 
 
 def all_sessions(before: Reading, after: Reading) -> list[str]:
@@ -188,10 +182,7 @@ def differences(before: Reading, after: Reading, asked: Collection[str] = ()) ->
         if code not in sessions:
             raise Trouble(f"there is no session {code}; the office has {few(sessions, 20)}")
     found = touched(before, after, with_past=True)
-    changes = of_touched(before, after, {code: found[code] for code in found if not asked or code in asked}, True)
-    if not changes:  # a row that meets nobody may be one that no office has: asked of somebody, the program says so
-        after.ask(map(after.person, [*facts.candidate_names(after.rows)][:1]))
-    return changes
+    return of_touched(before, after, {code: found[code] for code in found if not asked or code in asked}, True)
 
 
 def of_touched(before: Reading, after: Reading, sessions: Touched, with_clashes: bool = False) -> list[Change]:

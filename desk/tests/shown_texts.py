@@ -18,7 +18,7 @@ from jinja2 import nodes
 
 DESK = pathlib.Path(__file__).resolve().parent.parent
 sys.path.insert(0, str(DESK))
-from exam_desk import (appeals, backups, copies, effects, files, keeping, logbook, mistakes, notebook, reasons,  # noqa: E402
+from exam_desk import (appeals, backups, copies, files, keeping, logbook, mistakes, notebook, reasons,  # noqa: E402
                        refusals, second_sitting, typed, words)
 from exam_desk.sheets import slips  # noqa: E402
 from exam_desk.workbook import cells, opening  # noqa: E402
@@ -66,7 +66,6 @@ FORMED = [*mistakes.CURES.values(), mistakes.EMPTY_ROW, files.NO_UTF_8, *(
           *filter(re.compile(r"^session \{|^[^;]+ [^;]+; nothing is changed$").search, sentences(second_sitting)),
           *filter(re.compile("^nothing is noted|nobody can have been").search, sentences(notebook)),
           *filter(re.compile("is no candidate number").search, sentences(typed)),
-          *filter(re.compile("^NOTE: (noted|still)").search, sentences(effects)),
           "NOTE: who only did not come stays entered: `office absent {0} {1}` notes it",
           *(f"{{0}} {word}" for word in ("number", "numbers", "candidate", "candidates", "desk", "desks", "(new)")),
           "{0} and {1} more"]

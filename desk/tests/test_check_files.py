@@ -147,10 +147,11 @@ class Verdicts(sample.SampleSchool):
         self.write("facts/candidates.csv", "\n".join(["number,name,code", *rows, ""]))
         line = "candidates.csv: 60 candidates have no access code; `office take .. --codes` makes them; without them " \
             "an import refuses the file\n"
-        once = "once imported: 6 without a desk: 2 in MON-AM, 2 in MON-PM, 2 in TUE-AM\n"
+        once = ("NOTE: once imported: 4 have new clashes: 4 in MON-AM\n"
+                "NOTE: once imported: 6 without a desk: 2 in MON-AM, 2 in MON-PM, 2 in TUE-AM\n")
         done = self.run_office("check-files", "facts", OFFICE=none)
         self.assertEqual((done.returncode, done.stderr), (1, ""))
-        self.assertTrue(done.stdout.startswith(f"{line}NOTE: {once}"), done.stdout)
+        self.assertTrue(done.stdout.startswith(f"{line}{once}"), done.stdout)
         self.assertTrue(done.stdout.endswith("\n7 files, 0 mistakes, 2 notes\n"), done.stdout)
         self.assertIn("candidates.csv: 60 candidates have no access code; `office take ..` fills in 60 from the office; "
                       "without", self.run_office("check-files", "facts").stdout)

@@ -21,8 +21,6 @@ class NewOffice(test_changing.Changing):
         """The office of the year before is moved away without what lay beside it."""
         super().setUp()
         self.office("withdraw", "0001000", "MA-1")
-        logbook.write(self.value, ["close-hall", "MON-AM", "GYM"], 0, "closed")
-        self.assertEqual([*logbook.closings(self.value)], [("MON-AM", "GYM")])
         notebook.take_notes(self.value, {sample.NUMBER: "scribe"})
         notebook.keep_absent(self.value, "MON-AM", [sample.NUMBER], [])
         self.move_away()
@@ -44,7 +42,6 @@ class NewOffice(test_changing.Changing):
         self.assertEqual((notebook.notes(self.value), notebook.absent(self.value, "MON-AM")), ({}, None))
         self.assertEqual(sorted(os.listdir(os.path.join(self.desk, name))), ["absent.MON-AM.json", "notes.json"])
         self.assertEqual(self.log()[-2:], [["init", "begins", ""], ["init", "0", "ready"]])
-        self.assertEqual(logbook.closings(self.value), {})
 
     def test_its_copies_are_marked_and_put_back(self):
         """The log and the names of copies have whole seconds."""

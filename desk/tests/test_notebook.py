@@ -400,7 +400,7 @@ class Commands(sample.SampleSchool):
         other = self.write("other.csv", "number,text\n0001306,two\n")
         self.assertEqual(self.run_office("notes", other).stderr,
                          "1 session has printed papers that are out of date: MON-AM (doors of AULA; slips)\n"
-                         "`office printed MON-AM --look` lists them\n")
+                         "`office printed` lists them\n")
         self.assertEqual(self.run_office("notes", first).stderr, "")  # as on paper again
 
     def test_no_text_of_a_note_is_kept_with_what_is_printed(self):

@@ -106,8 +106,8 @@ class Files(sample.SampleSchool):
         os.remove(self.path)
         texts = {kind: (self.examples / f"{kind}.csv").read_text("utf-8") for kind in sample.KINDS}
         self.assertEqual(self.checked(**texts), [
-            "NOTE: once imported: 6 without a desk: 2 in MON-AM, 2 in MON-PM, 2 in TUE-AM",
-            "NOTE: once imported: 4 have new clashes: 4 in MON-AM", "7 files, 0 mistakes, 2 notes"])
+            "NOTE: once imported: 4 have new clashes: 4 in MON-AM",
+            "NOTE: once imported: 6 without a desk: 2 in MON-AM, 2 in MON-PM, 2 in TUE-AM", "7 files, 0 mistakes, 2 notes"])
         self.assertFalse(os.path.exists(self.path))
 
     def test_what_cannot_be_tried(self):

@@ -74,7 +74,7 @@ class There(SecondSitting):
         self.assertEqual(said.split("\n")[:4], [
             "session MON-AM-2 (new) at 10:30, paper MA-1-2 (new), hall R14 with 1 desk",
             "0000003 ?Bo, =1+1 sits LAT until 10:30 (has no desk), and MA-1-2 from 10:30 to 12:30 in R14, desk 1",
-            "1 joins a session", "session MON-AM-2: 1 candidate, 0 without a desk"])
+            "1 joins a session", "done; `office changes 1` says who must be told, `office back 1` takes it back"])
         self.assertEqual(self.seats("MON-AM-2"), {"0000003": ("MA-1-2", "R14", "1")})
         self.assertEqual(self.seats("MON-AM")["0000003"][0], "LAT")
         self.assertNotIn("0000003", self.office("clashes", "MON-AM"))
