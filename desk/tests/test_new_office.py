@@ -9,7 +9,7 @@ import time
 import desk_client
 import sample
 import test_changing
-from exam_desk import changing, logbook, notebook
+from exam_desk import changing, notebook
 from exam_desk.running import NotStarted
 
 LEFT = "notebook-of-an-office-before-"
