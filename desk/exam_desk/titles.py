@@ -4,25 +4,23 @@ import contextlib
 import json
 import os
 import tempfile
+from typing import Any
 
 from exam_desk import beside, facts, files, snapshot
 from exam_desk.office import Office, Trouble
 from exam_desk.snapshot import Rows
 from exam_desk.words import clock
 
-SESSIONS, PAPERS, HALLS = KINDS = ("sessions", "papers", "halls")  # in the file; of its rows
+KINDS = ("sessions", "papers", "halls")  # in the file; of its rows
 PLACE = "titles"  # beside the office: the path of the file
 
 
 def text(rows: Rows) -> str:
     """Nothing of any candidate: in ASCII, by code, a line for each row."""
-    found = {
-        SESSIONS: {head["code"]: {"date": head["day"], "start": clock(head["start"])}
-                   for head in sorted(facts.sessions(rows), key=lambda head: str(head["code"]))},
-        PAPERS: dict(sorted(facts.paper_titles(rows).items())),
-        HALLS: dict(sorted(facts.hall_titles(rows).items())),
-    }
-    return json.dumps(found, indent=0) + "\n"
+    found: list[dict[str, Any]] = [
+        {head["code"]: {"date": head["day"], "start": clock(head["start"])} for head in facts.sessions(rows)},
+        facts.paper_titles(rows), facts.hall_titles(rows)]
+    return json.dumps({kind: dict(sorted(each.items())) for kind, each in zip(KINDS, found)}, indent=0) + "\n"
 
 
 def is_one(path: str) -> bool:

@@ -141,7 +141,7 @@ def draw(code: str) -> Response:
         raise Wrong(charts if is_chart else shown.hall_page(halls[0]), "draw", **wrong)
     for hall, rows in drawn.items():
         notebook.keep_rows(office(), hall, rows)
-        tell_papers(on_paper.otherwise(office(), {}, {on_paper.OF_ROWS.format(hall): str(rows)}))
+    tell_papers()
     g.visit.said += [] if is_chart else [("good", text("{hall} is drawn so now.", hall=halls[0]))]  # beside its picture
     return lead(charts[0], **charts[1]) if is_chart else lead("session.page", code=code, _anchor=f"hall-{halls[0]}")
 
@@ -182,7 +182,7 @@ def sheet(code: str, sheet: str, hall: Sequence[str] = ()) -> str:
     if sheet == "chart" and (asked := papers.not_drawn(view().reading, code, halls)):
         found = [(each, standing(each)) for each in map(shown.opening, asked)]
         return render_template("charts.html", s=shown.sums, halls=found, of=halls)
-    return styled(getattr(papers, sheet)(view().reading, code, *([halls] if sheet in on_paper.BY_HALL else [])))
+    return styled(papers.page(view().reading, sheet, code, halls))
 
 
 @pages.get("/sessions/<code>/printed")

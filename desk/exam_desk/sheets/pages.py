@@ -94,7 +94,7 @@ def document(reading: Reading, title: str, body: Markup, *names: str, of: str = 
     return str(html(DOCUMENT, f"{title} {of}".strip(), printed, Markup(quoted), Markup(styles), body))
 
 
-def school(office: Office, behind: str = "") -> Markup:
-    """The name of the school and what stands behind it; nothing where no name was given."""
+def with_school(office: Office, *parts: object, between: str = "<br>") -> Markup:
+    """Parts behind the name of the school, where one was given."""
     name = notebook.school_name(office)
-    return html("{}{}", text(name), Markup(behind)) if name else Markup()
+    return joined([*([text(name)] if name else []), *parts], between)

@@ -1,4 +1,4 @@
-"""What lists say as text: of a candidate, of two papers at once, of each session, of notes."""
+"""What lists say as text: of a candidate, of two papers at once, of each session."""
 import itertools
 import re
 import sqlite3
@@ -7,10 +7,10 @@ from collections.abc import Collection, Iterator
 
 from exam_desk import appeals, facts, lists, notebook, overlaps
 from exam_desk.lists import has_words, letters
-from exam_desk.office import Office, Trouble
+from exam_desk.office import Trouble
 from exam_desk.reading import Person, Reading, Sitting
 from exam_desk.snapshot import Rows
-from exam_desk.words import clock, feature_text, plain
+from exam_desk.words import clock, feature_text
 
 MOST_SHOWN = 10  # candidates; of more only names and numbers
 CANDIDATES = "SELECT printf('%07d', number), name, code FROM candidate"
@@ -115,10 +115,3 @@ def summary(reading: Reading, asked: Collection[str] = ()) -> str:
         lines.append(SUMMARY.format(code, day, clock(start), len(members), seated, len(members) - seated, desks,
                                     desks - seated, len(reading.clashes(code)), twice[code], waiting))
     return "".join([*lines, *(f"NOTE: {each}\n" for each in overlaps.lines(reading, found))])
-
-
-def notes(office: Office, rows: Rows) -> str:
-    """The notes on candidates, a line for each, by number."""
-    names = facts.candidate_names(rows)
-    lines = (f"{number} {names.get(number, '')}: {note}" for number, note in notebook.notes(office).items())
-    return "".join(f"{plain(line)}\n" for line in lines)
