@@ -188,7 +188,7 @@ Each later change of sessions, papers or halls writes the file again; remove it 
 read it: it has nothing of any candidate.
 """)
 def titles(parser: command.Parser) -> None:
-    from exam_desk import beside, titles
+    from exam_desk import titles
     given = command.given(parser, "file?: a file to write; without it the titles are printed")
     with command.rows() as rows:
         text = titles.text(rows)
@@ -196,10 +196,7 @@ def titles(parser: command.Parser) -> None:
         command.say(text)
         return
     titles.put(given.file, text)
-    try:
-        titles.keep(command.office(), given.file)
-    except (OSError, beside.Strange) as fault:
-        command.warn(f"NOTE no change writes it again: {fault}")
+    titles.keep(command.office(), given.file)
 
 
 @command.named("""Says why candidates have no desk, hall by hall, and what could help: why SESSION [NUMBER].

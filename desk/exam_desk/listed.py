@@ -22,8 +22,7 @@ Tell = Callable[[int, Answered], None]  # hears what became of the row that begi
 
 
 def rows_of(office: Office, command: str, path: str) -> tuple[Rows, list[str]]:
-    """The rows of a file with the header of entries, in which zeros in front of a number may be missing, and a line for
-    each mistake in it. Raises `Trouble` where there is no row."""
+    """The rows of a file with the header of entries; a line for each mistake in it. Raises `Trouble` without a row."""
     text = files.read(path, office.warn)
     file = mistakes.File("entries", checking.office_knows(office))
     given = file.rows(text)
@@ -37,8 +36,7 @@ def rows_of(office: Office, command: str, path: str) -> tuple[Rows, list[str]]:
 
 
 def of_candidate(office: Office, number: str) -> Rows:
-    """The withdrawal of each entry of a candidate that counts; those of sessions that are over stay, which is said.
-    Raises `Trouble` where there is no such candidate, or nothing to withdraw."""
+    """The withdrawal of each entry of a candidate that is to come. Raises `Trouble` where there is none."""
     number = candidate_number(number)
     with snapshot.rows(office) as rows:
         if number not in facts.candidate_names(rows):

@@ -1,9 +1,7 @@
-"""What the school keeps beside its office: notes on candidates, its name, how desks stand in halls, which desks were
-printed, who was absent.
+"""What the school keeps beside its office: notes, its name, how desks stand, what is printed, who was absent.
 
-Each is a file of JSON in the folder `notebook` beside the office, for the office's user alone. None of it is a fact of
-the office: no seat depends on it. The copies of the office have it too; `office back` leaves what is there as it is,
-and says what of it a copy has otherwise.
+Each is a file of JSON in the folder `notebook`, for the office's user alone. No seat depends on it. The copies of the
+office have it too; `office back` leaves it as it is, and says what of it a copy has otherwise.
 """
 import contextlib
 import datetime
@@ -48,6 +46,10 @@ class Absences(NamedTuple):
 def is_text(part: object) -> bool:
     """Whether it is a text without halves of letters, which no page can hold."""
     return isinstance(part, str) and part.encode("utf-8", "ignore").decode() == part
+
+
+def can_stand(rows: Rows) -> bool:
+    return 1 <= rows.across <= MOST_ACROSS and rows.running in RUNNING
 
 
 def is_rows(part: object) -> bool:
@@ -114,10 +116,6 @@ def keep_rows(office: Office, hall: str, rows: Rows) -> None:
     logbook.write_done(office, ["rows", hall], 0, f"rows of {rows.across}, {rows.running}")
 
 
-def can_stand(rows: Rows) -> bool:
-    return 1 <= rows.across <= MOST_ACROSS and rows.running in RUNNING
-
-
 def absent(office: Office, session: str) -> set[str] | None:
     """The numbers of who was missing in a session; None where nobody noted who was, nor that nobody was."""
     found = read(office, f"absent.{session}")
@@ -126,18 +124,15 @@ def absent(office: Office, session: str) -> set[str] | None:
 
 def absences(reading: Reading, session: str) -> Absences | None:
     """None where nobody noted who was absent, nor that nobody was."""
-    noted = absent(reading.office, session)
-    if noted is None:
+    if (noted := absent(reading.office, session)) is None:
         return None
-    known = facts.candidate_names(reading.rows).keys()  # a copy from before somebody came may have been put back
-    members = reading.members(session, sorted(noted & known))
+    members = reading.members(session, facts.entered(reading.rows, session, among=noted))
     return Absences(members, sorted(noted.difference(member.number for member in members)))
 
 
 def keep_absent(office: Office, session: str, missing: Iterable[str], there: Iterable[str],
                 nobody: bool = False) -> set[str]:
-    """Adds some to the absent of a session and takes others away; who is absent then. Where that is nobody it is kept
-    if somebody says so. Raises `Trouble` where somebody is absent, and nobody too."""
+    """Adds some to the absent of a session and takes others away; who is absent then. `nobody` is kept, too."""
     def change(kept: list[str] | None) -> list[str] | None:
         found = sorted({*(kept or ()), *missing}.difference(there))
         if found and nobody:
@@ -166,8 +161,7 @@ def day_of(reading: Reading, session: str) -> str:
 def note_absent(office: Office, reading: Reading, session: str, missing: Iterable[str], there: Iterable[str] = (),
                 nobody: bool = False) -> set[str]:
     """Notes some as absent and others as there, or that nobody was absent; who is absent then. Raises `Trouble`, and
-    notes nothing, before the day of the session, where nobody is named, where a number is neither that of a member nor
-    noted already, and as `keep_absent`."""
+    notes nothing, before the day of the session, where nobody is named, and where a number is no member's."""
     day_of(reading, session)
     missing, there = [*map(typed.candidate_number, missing)], [*map(typed.candidate_number, there)]
     if not (missing or there or nobody):
@@ -175,16 +169,15 @@ def note_absent(office: Office, reading: Reading, session: str, missing: Iterabl
     if both := sorted({*missing} & {*there}):
         raise Trouble(f"nothing is noted: {words.few(both, MOST_NAMED)}: absent, or there?")
     asked = {*missing, *there}.difference(absent(office, session) or ())
-    members = reading.members(session, facts.candidate_names(reading.rows).keys() & asked)
+    members = reading.members(session, facts.entered(reading.rows, session, among=asked))
     if wrong := sorted(asked.difference(member.number for member in members)):
         raise Trouble(f"nothing is noted: {words.few(wrong, MOST_NAMED)}: no candidate of {session}")
     return keep_absent(office, session, missing, there, nobody)
 
 
 def attendance(reading: Reading, sessions: Iterable[str]) -> str:
-    """A line for each member of the sessions and each paper that they are entered for, by paper, as CSV. The code is
-    the one which the exam board knows. Who has no desk cannot have been present. Raises `Trouble` before the day of a
-    session."""
+    """A line for each member and each paper that they are entered for, by paper, as CSV with the codes that the exam
+    board knows. Raises `Trouble` before the day of a session."""
     from exam_desk.second_sitting import own_code  # here, since it makes changes, whose copies have this notebook
     rows = [["session", "date", "number", "paper", "attendance"]]
     for session in sessions:
@@ -207,8 +200,7 @@ def alone(office: Office) -> Iterator[None]:
 
 
 def read(office: Office, name: str) -> Any:
-    """What a file holds; None where there is none. Raises `Trouble` where it is of another type, or one of its parts
-    is not right."""
+    """What a file holds; None where there is none. Raises `Trouble` where it, or a part of it, has another form."""
     _, kind, is_right = KINDS[name.partition(".")[0]]
     try:
         file = beside.open_file(office.path, PLACE, f"{name}.json", flags=os.O_RDONLY)
@@ -223,8 +215,8 @@ def read(office: Office, name: str) -> Any:
 
 
 def keep(office: Office, name: str, change: Callable[[Any], object]) -> tuple[Any, Any]:
-    """Writes what a change makes of what a file holds, whole and onto the disk; gives both. Where nothing is held it is
-    None, and for None the file goes. Nobody else writes in between."""
+    """Writes what a change makes of what a file holds, whole and onto the disk; gives both. None is no file. Nobody
+    else writes in between."""
     if not os.path.isfile(office.path):
         raise NoOffice(office.path)
     path = os.path.join(beside.make_folder(office.path, PLACE), f"{name}.json")
@@ -254,8 +246,7 @@ def copy_into(office: Office, target: str) -> None:
 
 
 def set_aside(office: Office) -> tuple[str, list[str]]:
-    """Gives the notebook of an office that is gone a name that says so: its path, and what it holds, in words. An empty
-    path where there is none. Call it with the office alone."""
+    """Renames the notebook of an office that is gone: its path, and what it holds; '' if none. Call it in a turn."""
     place = beside.folder(office.path, PLACE)
     aside = f"{place}-of-an-office-before-{datetime.datetime.now():%Y-%m-%d-%H.%M.%S}"
     with contextlib.suppress(FileNotFoundError), alone(office):

@@ -123,8 +123,7 @@ def shared(reading: Reading, session: str) -> dict[str, str]:
 
 
 def out_of_date(office: Office, moves: Iterable[Move], others: Iterable[Other], lines: Mapping[str, Line]) -> Papers:
-    """The papers that show of somebody, or of what lines share, what is another, each with its halls. A hall has a
-    chart once somebody has said how its desks stand."""
+    """The papers that show what is another, each with its halls; charts of those alone whose rows of desks are kept."""
     met = {(kind, line.hall) for move in moves for kind in move.kinds() for line in (move.printed, move.now) if line}
     for what, *_ in others:
         code, _, part = what.partition(OF)
@@ -166,8 +165,7 @@ def otherwise(office: Office) -> dict[str, Papers]:
 
 
 def note(office: Office, reading: Reading, session: str) -> tuple[int, str]:
-    """Notes for the office's user, in the log too, that the papers of a session are printed as it is; how many desks
-    they have, and this in words. Raises `Trouble` where there is no such session."""
+    """Notes, in the log too, that the papers of a session are printed as it is; how many desks, and an answer."""
     lines = lines_of(reading, session, reading.members(session))
     codes = {SCHOOL}.union(*((line.hall, line.paper) for line in lines.values()))
     common = {what: [value, 0] for what, value in shared(reading, session).items() if what.partition(OF)[0] in codes}

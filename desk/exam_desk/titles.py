@@ -1,5 +1,4 @@
-"""The file of titles for the candidates' page: those of papers and halls, and the days of sessions. Once it is written,
-each change of these writes it again; whoever removes it ends that."""
+"""The file of titles for the candidates' page, which each change of sessions, papers or halls writes again."""
 import contextlib
 import json
 import os
@@ -32,8 +31,7 @@ def is_one(path: str) -> bool:
 
 
 def put(path: str, content: str) -> None:
-    """Writes the file whole, or leaves the one that is there. `Trouble` where that is none of titles, since a slip
-    would cost an office."""
+    """Writes the file whole, or leaves the one that is there. Raises `Trouble` where that is none of titles."""
     if os.path.lexists(path) and not is_one(path):
         raise Trouble("is there and is no file of titles: name another one, or remove it first", path)
     if not os.path.isdir(place := os.path.dirname(os.path.abspath(path))):

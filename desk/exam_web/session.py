@@ -179,8 +179,10 @@ def sheet(code: str, sheet: str, hall: Sequence[str] = ()) -> str:
         abort(404)
     if sheet == "slips":
         return styled(slips.page(view().reading, slips.Choice([code], desks=True)))
-    if sheet == "chart" and (asked := papers.not_drawn(view().reading, code, halls)):
-        found = [(each, standing(each)) for each in map(shown.opening, asked)]
+    drawn = notebook.rows_of_halls(desk().office)
+    if sheet == "chart" and (asked := [opening for opening, _ in lists.halls(view().reading, code, halls)
+                                       if opening.hall not in drawn]):
+        found = [(each, standing(each)) for each in asked]
         return render_template("charts.html", s=shown.sums, halls=found, of=halls)
     return styled(papers.page(view().reading, sheet, code, halls))
 

@@ -148,8 +148,7 @@ class TestPrinting(DeskSchool):
     def test_papers_of_a_hall_that_is_empty_now(self):
         self.office("printed", "MON-AM")
         self.office("close-hall", "MON-AM", "LIB")
-        self.assertIn("To take away, as nobody sits there now: Invigilators' sheets, Lists for candidates to sign, Posters "
-                      "for doors, Desk cards: LIB ", self.browser.words(self.PRINTED))
+        self.assertIn("To take away, as nobody sits there now: LIB ", self.browser.words(self.PRINTED))
 
     def test_who_need_not_be_told_of_another_desk_number(self):
         """Where papers are out of date by it, the page leaves that open."""

@@ -100,11 +100,10 @@ def page(reading: Reading, name: str, session: str, asked: Collection[str] = ())
 
 def board(of: Session) -> Iterator[Markup]:
     """By name, with the hall and the desk."""
-    titles, used = facts.hall_titles(of.rows), sorted({member.sitting.hall or "" for member in of.members} - {""})
     rows = [[of.name(each), each.sitting.hall or ASK, of.desk(each) if each.sitting.hall else ""]
             for each in lists.by_name(of.members)]
-    yield html(BOARD, of.heading, joined((html("<b>{}</b> {}", code, text(titles[code])) for code in used), "<br>"),
-               table("Candidates by name", ["Name", "w:Hall", "n:Desk"], rows, of.when))
+    legend = joined((html("<b>{}</b> {}", opening.hall, text(opening.title)) for opening, _ in of.halls), "<br>")
+    yield html(BOARD, of.heading, legend, table("Candidates by name", ["Name", "w:Hall", "n:Desk"], rows, of.when))
 
 
 def poster(of: Session) -> Iterator[Markup]:
@@ -126,15 +125,8 @@ def cards(of: Session) -> Iterator[Markup]:
         yield from (joined(found[at:at + CARDS], "\n") for at in range(0, len(found), CARDS))
 
 
-def not_drawn(reading: Reading, session: str, asked: Collection[str] = ()) -> list[str]:
-    """The halls among them of which nobody has said how their desks stand."""
-    rows = notebook.rows_of_halls(reading.office)
-    return [opening.hall for opening, _ in lists.halls(reading, session, asked) if opening.hall not in rows]
-
-
 def chart(of: Session) -> Iterator[Markup]:
-    """Halls as rows of desks, with who sits where. A warning names halls of which there is none. Raises `Trouble` where
-    there is no other."""
+    """Halls as rows of desks, with who sits where. `Trouble` where nobody has said of any hall how its desks stand."""
     rows, papers = notebook.rows_of_halls(of.office), paper_names(of.rows, CODE)
     if unknown := [opening.hall for opening, _ in of.halls if opening.hall not in rows]:
         said = (f"no chart of {', '.join(unknown)} yet: say once how the desks stand, `office rows {unknown[0]} 8` for "
@@ -144,34 +136,28 @@ def chart(of: Session) -> Iterator[Markup]:
         of.office.warn(said)
     for opening, there in of.halls:
         if stand := rows.get(opening.hall):
+            seated = {sits.desk: html("{} {} {}", fitted(text(name), ON_CHART), number, papers[sits.paper])
+                      for number, name, sits in there}
             yield html(CHART, "chart wide" if stand.across > UPRIGHT else "chart", stand.across, text(opening.title),
                        opening.hall, with_school(of.office, of.when, between=". "), of.expected(opening.hall, there),
-                       joined(drawn(opening.desks, there, stand, papers)))
+                       joined(drawn(line, seated) for line in numbered(opening.desks, stand)))
 
 
-def drawn(desks: int, members: Iterable[Member], rows: Rows, papers: Mapping[str, Markup]) -> Iterator[Markup]:
-    """The rows of desks of a hall, with who sits there."""
-    seated = {sits.desk: html("{} {} {}", fitted(text(name), ON_CHART), number, papers[sits.paper])
-              for number, name, sits in members}
-    for line in numbered(desks, rows):
-        yield html("<tr>{}</tr>\n", joined(
-            html("<td><b>{}</b>{}</td>", place, seated.get(place, FREE)) if place else NO_PLACE for place in line))
+def drawn(line: Iterable[int | None], seated: Mapping[int | None, Markup]) -> Markup:
+    """A row of desks, with who sits there."""
+    return html("<tr>{}</tr>\n", joined(
+        html("<td><b>{}</b>{}</td>", place, seated.get(place, FREE)) if place else NO_PLACE for place in line))
 
 
 def numbered(desks: int, rows: Rows) -> list[list[int | None]]:
-    """The numbers of the desks of a hall, row by row from the front; None where no desk stands. The last row may be
-    short, and so may the columns that end there."""
-    depth = -(-desks // rows.across)
-    is_across, turns_back = rows.running.startswith("across"), "-and-" in rows.running
-    last = desks - (depth - 1) * rows.across  # desks of the last row
-    lengths = [rows.across] * depth if is_across else [depth - (column >= last) for column in range(rows.across)]
-    places = [(line, length - 1 - place if turns_back and line % 2 else place)
-              for line, length in enumerate(lengths) for place in range(length)]
-    grid: list[list[int | None]] = [[None] * rows.across for _ in range(depth)]
-    for number, (line, place) in zip(range(1, desks + 1), places):
-        row, column = (line, place) if is_across else (place, line)
-        grid[row][column] = number
-    return grid
+    """The numbers of the desks of a hall, row by row from the front; None where no desk stands."""
+    stand, turns_back = [divmod(place, rows.across) for place in range(desks)], "-and-" in rows.running
+    if rows.running.startswith("across"):
+        order = [(row, rows.across - 1 - column if turns_back and row % 2 else column) for row, column in stand]
+    else:
+        order = sorted(stand, key=lambda place: (place[1], -place[0] if turns_back and place[1] % 2 else place[0]))
+    numbers = {place: number for number, place in enumerate(order, 1)}
+    return [[numbers.get((row, column)) for column in range(rows.across)] for row in range(stand[-1][0] + 1)]
 
 
 def counts(of: Session) -> Iterator[Markup]:
@@ -213,9 +199,8 @@ def doors(of: Session) -> Iterator[Markup]:
 
 def elsewhere(made: Mapping[str, sqlite3.Row], starts: Mapping[str, int], sits: Sitting, all_of: Collection[Sitting]
               ) -> Iterator[str]:
-    """What invigilators must know, from all that somebody sits: what they sit in another session at that time; and
-    where a second sitting is behind this one, or is this one: in between somebody stays with them. Of each paper that
-    was made for second sittings its own one is given."""
+    """What invigilators must know: what somebody sits in another session at that time; and where a second sitting is
+    behind this one, or is this one, that somebody stays with them in between."""
     for other in overlaps.beside(starts, sits, all_of):
         when = f"until {other.finish}" if starts[other.session] < starts[sits.session] else f"from {other.start}"
         yield f"sits {other.session} {when}, in {other.hall or 'no hall yet'}"
@@ -247,8 +232,7 @@ def of_door(of: Session, titles: Mapping[str, Markup], opening: facts.Opening, m
 
 
 def row_of(of: Session, member: Member, paper: Markup, is_noted: bool, arranged: list[str]) -> Row:
-    """The row of a candidate, as high as its highest cell is, or a signature. Below the finish stand the one that was
-    printed where that is another, and a word on a note."""
+    """The row of a candidate, as high as its highest cell is, or a signature."""
     finish, line = member.sitting.finish, of.printed.get(member.number)
     below = [f"was {line.finish}"] if line and line.finish not in ("", finish) else []
     until = joined([finish, *(html("<small>{}</small>", each) for each in below + [LATER] * is_noted)], "<br>")
@@ -296,8 +280,7 @@ def parted(heights: Sequence[float], room: float, below: float) -> list[slice]:
 
 
 def changes(before: Reading, after: Reading, found: Iterable[Change], since: str) -> str:
-    """Who must be told: what became of each candidate since a copy, the gravest first, with a box to tick. `since` says
-    what they are compared with."""
+    """Who must be told: what became of each candidate since a copy, which `since` says in words, the gravest first."""
     papers = paper_names(before.rows) | paper_names(after.rows)
     halls = hall_names(before.rows) | hall_names(after.rows)
     tables = [table(telling.KINDS[kind][1], TOLD, [told(each, papers, halls) for each in part],

@@ -37,8 +37,7 @@ class Slip(NamedTuple):
 
 
 def page(reading: Reading, choice: Choice) -> str:
-    """The slips by name, or by group and name. Raises `Trouble` where the office does not know a candidate who is asked
-    for, or they sit nothing in these sessions."""
+    """The slips by name, or by group and name. Raises `Trouble` where who is asked for is unknown, or sits nothing."""
     papers, halls = pages.paper_names(reading.rows), pages.hall_names(reading.rows)
     address, by_group = notebook.school_name(reading.office, notebook.PAGE), dict[str, list[Markup]]()
     for each in slips_of(reading, choice):

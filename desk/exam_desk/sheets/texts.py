@@ -99,8 +99,7 @@ def papers_at_once(reading: Reading, session: str) -> Iterator[str]:
 
 
 def summary(reading: Reading, asked: Collection[str] = ()) -> str:
-    """A line for each session that is asked for, or for all: members, seated, short, desks, free desks, candidates with
-    a clash, sessions at one time, and open appeals. Below it a note for each two sessions at one time."""
+    """A line for each session that is asked for, or for all; below them a note for each two sessions at one time."""
     heads = facts.sessions(reading.rows, asked)
     entered = dict.fromkeys(number for head in heads for number in facts.entered(reading.rows, head["code"]))
     reading.ask(map(reading.person, entered))  # of all at once, so that the progress is that of the whole
