@@ -123,6 +123,6 @@ def notes_of(parts: Parts, folder: str) -> Parts:
     for name, opened in parts.items():
         [*_, place, base] = ["", "", *pathlib.PureWindowsPath(name).parts]
         match = notebook.NAME.fullmatch(base) if place == notebook.PLACE else None
-        if match and match[1] in notebook.WORDS and (match[2] is None or files.is_code(match[2].encode())):
+        if match and match[1] in notebook.KINDS and (match[2] is None or files.is_code(match[2].encode())):
             found[os.path.join(folder, base)] = opened
     return found

@@ -131,10 +131,10 @@ def out_of_date(before: Reading, after: Reading, session: str, people: Collectio
         return {}
     asked = [(reading, facts.entered(reading.rows, session, among=people)) for reading in (before, after)]
     then, now = (on_paper.lines_of(reading, session, reading.members(session, numbers)) for reading, numbers in asked)
-    moves = [on_paper.Move(number, "", paper.lines.get(number), now.get(number))
-             for number in on_paper.moved(then, now) if paper.lines.get(number) != now.get(number)]
+    moves = [move._replace(printed=paper.lines.get(move.number)) for move in on_paper.moves(then, now)
+             if move.now != paper.lines.get(move.number)]
     was, shared = (on_paper.shared(reading, session) for reading in (before, after))
-    others = (what for what, *_ in on_paper.others(paper.shared, shared) if was.get(what) != shared[what])
+    others = (other for other in on_paper.others(paper.shared, shared) if was.get(other[0]) != other[2])
     return on_paper.out_of_date(after.office, moves, others, paper.lines)
 
 
@@ -200,9 +200,9 @@ def on_old_paper(papers: Mapping[str, on_paper.Papers]) -> list[Met]:
             for code, found in papers.items()]
 
 
-def noted(office: Office, notes: Mapping[str, str], common: Mapping[str, str]) -> list[str]:
+def noted(office: Office) -> list[str]:
     """As `done`, of the printed papers that `on_paper.otherwise` gives."""
-    met = in_order({PRINTED: on_old_paper(on_paper.otherwise(office, notes, common))})
+    met = in_order({PRINTED: on_old_paper(on_paper.otherwise(office))})
     return headlines(met) + listing(met, 1)
 
 

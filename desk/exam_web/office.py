@@ -12,7 +12,7 @@ from flask import Blueprint, abort, g, render_template, request, url_for
 from markupsafe import Markup, escape
 from werkzeug.wrappers import Response
 
-from exam_desk import backups, changing, copies, facts, keeping, logbook, notebook, on_paper, turns
+from exam_desk import backups, changing, copies, facts, keeping, logbook, notebook, turns
 from exam_desk.office import Stale, Trouble
 from exam_desk.words import Said
 from exam_web.desk import View, desk, office, once, sums, view
@@ -151,7 +151,7 @@ def school() -> Response:
     name = request.form.get("name", "").strip()
     with at_field(("office.page", {}), "school", "name"):
         notebook.set_school_name(office(), name)
-    tell_papers(on_paper.otherwise(office(), {}, {on_paper.OF_SCHOOL: name}))
+    tell_papers()
     told = text("The papers of the school have its name now.") if name else text("The school has no name now.")
     return lead("office.page", told, _anchor="school")
 

@@ -141,7 +141,7 @@ def out_of_date(coming: list[Sums]) -> Iterator[Attention]:
         if on_paper.noted(desk().office, each.code).lines:
             view().ask(facts.entered(view().reading.rows, each.code))
             if (found := on_paper.compared(view().reading, each.code)) and not found.holds():
-                yield of_session("printed", each, "print", count=len(found.moves), halls=found.halls)
+                yield of_session("printed", each, "print", count=len(found.moves), halls=found.halls())
 
 
 def at_one_time(coming: list[Sums]) -> Iterator[Attention]:

@@ -141,7 +141,7 @@ def draw(code: str) -> Response:
         raise Wrong(charts if is_chart else shown.hall_page(halls[0]), "draw", **wrong)
     for hall, rows in drawn.items():
         notebook.keep_rows(office(), hall, rows)
-        tell_papers(on_paper.otherwise(office(), {}, {on_paper.OF_ROWS.format(hall): str(rows)}))
+    tell_papers()
     g.visit.said += [] if is_chart else [("good", text("{hall} is drawn so now.", hall=halls[0]))]  # beside its picture
     return lead(charts[0], **charts[1]) if is_chart else lead("session.page", code=code, _anchor=f"hall-{halls[0]}")
 
@@ -179,10 +179,12 @@ def sheet(code: str, sheet: str, hall: Sequence[str] = ()) -> str:
         abort(404)
     if sheet == "slips":
         return styled(slips.page(view().reading, slips.Choice([code], desks=True)))
-    if sheet == "chart" and (asked := papers.not_drawn(view().reading, code, halls)):
-        found = [(each, standing(each)) for each in map(shown.opening, asked)]
+    drawn = notebook.rows_of_halls(desk().office)
+    if sheet == "chart" and (asked := [opening for opening, _ in lists.halls(view().reading, code, halls)
+                                       if opening.hall not in drawn]):
+        found = [(each, standing(each)) for each in asked]
         return render_template("charts.html", s=shown.sums, halls=found, of=halls)
-    return styled(getattr(papers, sheet)(view().reading, code, *([halls] if sheet in on_paper.BY_HALL else [])))
+    return styled(papers.page(view().reading, sheet, code, halls))
 
 
 @pages.get("/sessions/<code>/printed")

@@ -20,7 +20,6 @@ DESK = pathlib.Path(__file__).resolve().parent.parent
 sys.path.insert(0, str(DESK))
 from exam_desk import (appeals, backups, copies, files, keeping, logbook, mistakes, notebook, reasons,  # noqa: E402
                        refusals, second_sitting, typed, words)
-from exam_desk.sheets import slips  # noqa: E402
 from exam_desk.workbook import cells, opening  # noqa: E402
 from exam_web import application, desk, proposals, session, wording  # noqa: E402
 
@@ -62,7 +61,6 @@ FORMED = [*mistakes.CURES.values(), mistakes.EMPTY_ROW, files.NO_UTF_8, *(
           if re.search(r"[a-z]{2,}\b.* |.* .*\b[a-z]{2,}", each) and not OF_COMMANDS.search(each)),
           *filter(OF_KEEP.search, sentences(keeping)), "Address already in use",
           *filter(re.compile(r"^line |^a (row|\{0}) has|digits$|above$").search, sentences(files)),
-          *filter(re.compile("^the file has|^in no group,").search, sentences(slips)),
           *filter(re.compile(r"^session \{|^[^;]+ [^;]+; nothing is changed$").search, sentences(second_sitting)),
           *filter(re.compile("^nothing is noted|nobody can have been").search, sentences(notebook)),
           *filter(re.compile("is no candidate number").search, sentences(typed)),

@@ -58,7 +58,7 @@ class Office:
         return self.everybody
 season.view = season.desk = Office
 season.days_until = int
-paper = season.on_paper.Paper({}, {}, "", "")
+paper = season.on_paper.Paper({}, {})
 season.on_paper.noted = lambda office, code: paper._replace(lines={"1": None} if code != "UNPRINTED" else {})
 found = [season.Sums(code, day, 0, members, 0, 0, 0, 0) for code, day, members in
          (("TODAY", "0", 900), ("UNPRINTED", "1", 4000), ("FULL", "2", 1100), ("MORE", "3", 1), ("LATER", "4", 1))]

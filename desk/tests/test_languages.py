@@ -151,7 +151,7 @@ class TestNoEnglish(DeskSchool):
 
     def test_absences(self):
         for numbers, wrong in (("", "nichts ist vermerkt: es steht keine Nummer da"),
-                               ("9999999 8", "nichts ist vermerkt: 9999999, 0000008: kein Prüfling von MON-AM"),
+                               ("9999999 8", "nichts ist vermerkt: 0000008, 9999999: kein Prüfling von MON-AM"),
                                ("x", "'x' ist keine Nummer eines Prüflings")):
             self.assertIn(wrong, self.page("/sessions/MON-AM/absent", numbers=numbers))
         self.page("/sessions/MON-AM/absent", numbers="1051")

@@ -71,8 +71,7 @@ class Words(sample.SampleSchool):
         os.mkfifo(pipe)
         for path in (pipe, self.folder):
             for words in (["import", "entries", path], ["what-if", "import", "--", "entries", path], ["notes", path],
-                          ["codes", path], ["slips", "--order", path], ["reinstate", "--list", path],
-                          ["check-shortage", path]):
+                          ["codes", path], ["slips", "--order", path], ["reinstate", "--list", path]):
                 self.assertIn(f"office: {path}: is no file, but a folder, a pipe", self.refused(*words))
         self.assertFalse(os.path.exists(os.path.join(self.desk, "log")))
         for path in ("-", "/dev/stdin"):
