@@ -54,11 +54,9 @@ def of_candidate(office: Office, number: str) -> Rows:
 
 def carry_out(office: Office, title: str, rows: Rows, tell: Tell) -> changing.Carried:
     """Carries out each row by itself, so that one that is refused leaves the others. It stops where the office itself
-    cannot be used, and at a signal; the row that this meets may be done too. The copy from before stays where something
-    may be done. Raises `Trouble` where a turn, the disk or the program is not to be had; the rows before are done then.
-    """
-    answers: list[Answered] = []
-    copy = ""
+    cannot be used, and at a signal; the row that this meets may be done too. Raises `Trouble` where a turn, the disk or
+    the program is not to be had; the rows before are done then."""
+    answers, copy = list[Answered](), ""
     try:
         with contextlib.ExitStack() as whole:
             while not is_over(rows, answers):
@@ -72,11 +70,11 @@ def carry_out(office: Office, title: str, rows: Rows, tell: Tell) -> changing.Ca
     except SystemExit as signal:
         return changing.Carried(answers, copies.kept_if_other(office, copy), None, signal)
     except Trouble as fault:
-        kept(office, answers, copy)
+        copies.kept_if_other(office, copy)
         if not answers:
             raise
         raise Trouble(f"the rows from line {[*rows][len(answers)]} on are not carried out: {fault}") from fault
-    return changing.Carried(answers, kept(office, answers, copy), None)
+    return changing.Carried(answers, copies.kept_if_other(office, copy), None)
 
 
 @contextlib.contextmanager
@@ -105,11 +103,3 @@ def is_over(rows: Rows, answers: list[Answered]) -> bool:
 def is_hopeless(answers: list[Answered]) -> bool:
     """Whether the last refusal is about the office, so that it would be that of each further row."""
     return bool(answers) and refusals.number_of(answers[-1].ran.complaint) in OF_THE_OFFICE
-
-
-def kept(office: Office, answers: list[Answered], copy: str) -> str | None:
-    """The copy from before; where nothing was done it goes."""
-    if all(changing.has_done_nothing(office, answered, copy) for answered in answers):
-        copies.drop(copy)
-        return None
-    return copy
