@@ -275,7 +275,7 @@ class Papers(sample.SampleSchool):
                 rows = table.partition("<tbody>")[2].count("<tr>") - table.count("<td class=below")
                 self.assertEqual(table.count("<th scope=row"), rows, words)
         self.assertEqual(re.findall("<title>(.*)</title>", text), ["Slips MON-AM, 0001051"])
-        self.assertIn('content: "Slips, printed ', text)
+        self.assertIn('content: "Slips MON-AM, 0001051, printed ', text)
         self.assertRegex(text, "<td class=top colspan=4><span>access code VMGNZGEDP9</span>.*<h2><bdi>Di Berg</bdi>")
         self.assertRegex(self.office("doors", "MON-AM", "LIB"), r"<h2><bdi>Library<[\s\S]*<th scope=row><bdi>Jana Roe<")
         self.assertRegex(self.office("chart", "MON-AM", "PC1"), "aria-label='PC1'><thead><tr><td colspan=4><h1>")

@@ -84,12 +84,12 @@ def table(label: str, heads: Sequence[str], rows: Iterable[Sequence[object]], ab
                   f"<tbody>\n{body}\n{under}</tbody></table>\n")
 
 
-def document(reading: Reading, title: str, body: Markup, *names: str, of: str = "") -> str:
-    """Pages of A4 with these styles. Title, time and state are in the foot of each, and on a screen once, above all."""
+def document(reading: Reading, title: str, body: Markup, style: str) -> str:
+    """Pages of A4 in a style. Title, time and state are in the foot of each, and on a screen once, above all."""
     printed = f"printed {reading.office.now():%Y-%m-%d %H:%M:%S}, state {reading.mark}"
     quoted = re.sub(r"[^\w ,.:-]", lambda sign: rf"\{ord(sign[0]):x} ", f"{title}, {printed}")  # as a text of a style
-    styles = "".join(f"\n{(STYLES / f'{name}.css').read_text('utf-8')}" for name in ("page", *names))
-    return str(html(DOCUMENT, f"{title} {of}".strip(), printed, Markup(quoted), Markup(styles), body))
+    styles = "".join(f"\n{(STYLES / f'{name}.css').read_text('utf-8')}" for name in ("paper", style))
+    return str(html(DOCUMENT, title, printed, Markup(quoted), Markup(styles), body))
 
 
 def with_school(office: Office, *parts: object, between: str = "<br>") -> Markup:

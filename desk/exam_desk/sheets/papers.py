@@ -94,8 +94,7 @@ def page(reading: Reading, name: str, session: str, asked: Collection[str] = ())
     found = joined(html("<div class=sheet>{}</div>\n", sheet) for sheet in sheets(of))
     why = html("{}, none has a desk: <code>office why {}</code> says why", lists.count(len(of.members), "candidate"),
                session) if of.members else "nobody is entered"
-    return document(reading, f"{title} {session}", found or html("<h2>{}</h2>\n<p>{}</p>\n", of.heading, why), "paper",
-                    style)
+    return document(reading, f"{title} {session}", found or html("<h2>{}</h2>\n<p>{}</p>\n", of.heading, why), style)
 
 
 def board(of: Session) -> Iterator[Markup]:
@@ -287,7 +286,7 @@ def changes(before: Reading, after: Reading, found: Iterable[Change], since: str
                     html("<h2>{}</h2>", telling.counted(telling.KINDS[kind], [each.number for each in part])))
               for kind, part in telling.by_kind(found).items()]
     above = html("<h1>Who must be told</h1>\n<p>{}</p>\n", with_school(after.office, since, between=" &middot; "))
-    return document(after, "Changes", above + (joined(tables) or Markup("<p>Nobody.</p>\n")), "paper", "changes")
+    return document(after, "Changes", above + (joined(tables) or Markup("<p>Nobody.</p>\n")), "changes")
 
 
 def told(change: Change, papers: Mapping[str, Markup], halls: Mapping[str, Markup]) -> list[object]:
