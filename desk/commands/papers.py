@@ -131,7 +131,7 @@ def changes(parser: command.Parser) -> None:
         elif given.paper:
             text = papers.changes(before, after, told, since)
         else:
-            text = telling.text(found, given.tell)
+            text = telling.text(told)
     command.say_private(text)
 
 
