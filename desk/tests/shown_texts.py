@@ -21,7 +21,7 @@ sys.path.insert(0, str(DESK))
 from exam_desk import (appeals, backups, copies, files, keeping, logbook, mistakes, notebook, reasons,  # noqa: E402
                        refusals, second_sitting, typed, words)
 from exam_desk.workbook import cells, opening  # noqa: E402
-from exam_web import application, desk, proposals, session, wording  # noqa: E402
+from exam_web import proposals, wording  # noqa: E402
 
 DAYS = [datetime.date(2027, 3, day) for day in range(1, 8)]
 MONTHS = [datetime.date(2027, month, 1) for month in range(1, 13)]
@@ -71,17 +71,15 @@ REASONS = [*(f"no {name}" for name in words.FEATURES), reasons.CLOSES + "{0}", "
            "but {0} of {1} desks are taken"]  # why a hall does not suit, parted at commas
 OWN = [*REASONS, proposals.OTHER_OFFICE, proposals.WRONG_DESK, proposals.COMPARING, proposals.LODGING]
 TABLES = {  # by what stands in the call
-    "word": session.RUNNING.values(),
-    "title": session.SHEETS.values(),
     "appeals.KINDS[row.kind]": appeals.KINDS.values(), "appeals.STATES[row.state]": appeals.STATES.values(),
-    "kind": appeals.KINDS.values(), "PROBLEMS[fault.code]": application.PROBLEMS.values(),
-    "str(stage)": [desk.COPYING, desk.COUNTING], "mistakes.CURES[column].removesuffix(typed.OF_A_SHEET)": CURES,
+    "kind": appeals.KINDS.values(),
+    "mistakes.CURES[column].removesuffix(typed.OF_A_SHEET)": CURES,
     "v.kind": appeals.KINDS.values(), "status": [logbook.BEGINS, logbook.STEP],
     "f'{date:%a}'": [f"{date:%a}" for date in DAYS], "f'{date:%b}'": [f"{date:%b}" for date in MONTHS],
 }
 SENTENCE = re.compile(r"[a-z]{2,} [a-z]{2,}.* [a-z]{2,}")
 SQL = re.compile(r"\s*(SELECT|FROM|WHERE|ORDER|JOIN|AND|GROUP|HAVING)\b|.*\b(SELECT|FROM entry|JOIN)\b")
-OF_STRANGERS = {"guard.py", "serving.py"}  # they speak to who is not in, and to the terminal
+OF_STRANGERS = {"guard.py"}  # it speaks to who is not in
 PLAIN = {"examoffice", "csv", "aria", "invalid", "true", "describedby", "fault", "id"}  # no words of a language
 NO_TEXTS = {"the form has all values"}  # of an assertion
 ATTRIBUTES = {"title", "placeholder", "aria-label", "alt", "data-busy", "data-working", "data-nothing"}
@@ -106,6 +104,8 @@ class Modules(ast.NodeVisitor):
 
     def visit_Call(self, call):
         name = call.func.id if isinstance(call.func, ast.Name) else ""
+        if name == "Trouble" and self.path.name == "application.py":  # the terminal says it
+            return
         if name not in ("text", "many", "said"):
             self.generic_visit(call)
             return
