@@ -84,8 +84,7 @@ def everywhere() -> dict[str, Any]:
             "today": here.office.today().isoformat(), "pretended": here.pretended,
             "office_file": os.path.realpath(here.office.path), "state": g.view.name if "view" in g else "",
             "layout": "piece.html" if "piece" in request.args else "base.html",
-            "wrong": asked.wrong, "given": asked.given, "asked_form": asked.form,
-            "direction": "rtl" if wording.language() in wording.RIGHT_TO_LEFT else "ltr"}
+            "wrong": asked.wrong, "given": asked.given, "asked_form": asked.form}
 
 
 def problem(fault: Exception) -> ResponseReturnValue:

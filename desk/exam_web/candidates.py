@@ -16,7 +16,7 @@ from exam_desk.sheets import texts
 from exam_web import proposals
 from exam_web.desk import (Form, Page, Wrong, at_field, candidate_row, checked, desk, lead, office,
                            styled, sums, tell_papers, view)
-from exam_web.proposals import APPEALS, BY_DAY, PLANS, TROUBLE, Plan, command, features, import_step
+from exam_web.proposals import APPEALS, BY_DAY, PLANS, TROUBLE, Plan, command, import_step
 from exam_web.session import Session
 from exam_web.wording import link, said, text
 
@@ -176,7 +176,7 @@ def candidate(form: Form, **columns: str) -> tuple[Values, Page]:
     number = form.get("number", "")
     row = view().row("SELECT number, name FROM candidate WHERE printf('%07d', number) = ?", [number]) or abort(404)
     page = ("candidates.page", {"number": row["number"]})
-    return {"number": number, "name": row["name"], "needs": features(form), **checked(page, form, **columns)}, page
+    return {"number": number, "name": row["name"], **checked(page, form, needs="needs", **columns)}, page
 
 
 def of_one(field: str, step: Callable[[Values], Step], form: Form, is_of_now: bool = False) -> Plan:

@@ -22,7 +22,7 @@ from werkzeug.datastructures import MultiDict
 from werkzeug.utils import secure_filename
 from werkzeug.wrappers import Response
 
-from exam_desk import effects, facts, mistakes, on_paper, private, typed
+from exam_desk import effects, facts, files, mistakes, on_paper, private, typed, words
 from exam_desk.office import Office, Trouble
 from exam_desk.reading import Reading
 from exam_web.wording import language, said, text
@@ -216,11 +216,19 @@ def tell_papers(papers: Mapping[str, on_paper.Papers]) -> None:
 
 def checked(page: Page, form: Form, **columns: str) -> dict[str, str]:
     """The values of fields, in the forms of columns; what is wrong stands at its field. A number may lack its zeros."""
-    values = {name: form.get(name, "").strip() for name in columns}
-    values |= {name: typed.number(values[name]) for name, column in columns.items() if column == "number"}
+    values = {name: value_of(form, name, column) for name, column in columns.items()}
     if wrong := {name: cure(column) for name, column in columns.items() if not typed.is_right(column, values[name])}:
         raise Wrong(page, **wrong)
     return values
+
+
+def value_of(form: Form, name: str, column: str) -> str:
+    if column == "reserved":
+        return "yes" if form.get(name) else "no"
+    if files.RIGHT.get(column) is files.is_features:
+        return "+".join(each for each in words.FEATURES if each in form.getlist(name)) or "-"
+    value = form.get(name, "").strip()
+    return typed.number(value) if column == "number" else value
 
 
 def cure(column: str) -> Markup:

@@ -21,7 +21,7 @@ from markupsafe import Markup
 from werkzeug.wrappers import Response
 
 from exam_desk import (changing, copies, effects, facts, files, lodging, logbook, private, refusals,
-                       second_sitting, telling, words)
+                       second_sitting, telling)
 from exam_desk.changing import Answered, Step
 from exam_desk.listed import OF_THE_OFFICE
 from exam_desk.office import Office, Stale, Trouble
@@ -164,10 +164,6 @@ def command(word: str, names: Sequence[str], values: Mapping[str, str]) -> Step:
 def import_step(kind: str, values: Mapping[str, str]) -> Step:
     """An import of one row that was typed in."""
     return second_sitting.imported(kind, [values[name] for name in files.HEADERS[kind]])
-
-
-def features(form: Form, field: str = "needs") -> str:
-    return "+".join(name for name in words.FEATURES if name in form.getlist(field)) or "-"
 
 
 @pages.post("/propose/<what>")

@@ -18,7 +18,7 @@ from exam_desk.sheets import papers, slips
 from exam_desk.words import clock, parted
 from exam_web.desk import (Form, Page, View, Wrong, at_field, attached, checked, desk, lead, office, once, styled, sums,
                            tell_papers, view)
-from exam_web.proposals import APPEALS, PLANS, Plan, command, features, import_step
+from exam_web.proposals import APPEALS, PLANS, Plan, command, import_step
 from exam_web.wording import many, text
 
 pages = Blueprint("session", __name__)
@@ -199,17 +199,17 @@ def note_printed(code: str) -> Response:
 def opening(form: Form, page: Page, shown: Session) -> Plan:
     """A hall that is to be open, which was chosen or which the office does not know yet."""
     is_new = form.get("new_hall", "").strip() != ""
-    names = {"new_hall": "hall", "new_title": "title"} if is_new else {"hall": "hall"}
-    hall, *titles, desks, until = checked(page, form, **names, desks="desks", until="until").values()
-    if is_new and view().row("SELECT 1 FROM hall WHERE code = ?", [hall]):
+    fields = {"new_hall": "hall", "new_title": "title", "new_features": "features"} if is_new else {"hall": "hall"}
+    values = checked(page, form, **fields, desks="desks", until="until", reserved="reserved")
+    values |= {"session": shown.code, **{column: values[name] for name, column in fields.items()}}
+    if is_new and view().row("SELECT 1 FROM hall WHERE code = ?", [values["hall"]]):
         raise Wrong(page, new_hall=text("the office has this hall: choose it from the list"))
-    values = {"session": shown.code, "hall": hall, "desks": desks, "until": until,
-              "reserved": "yes" if form.get("reserved") else "no", "is_open": "yes" if hall in shown.halls else ""}
-    new = [import_step("halls", {"hall": hall, "title": title, "features": features(form, "new_features")})
-           for title in titles]
-    named = " ".join(["open-hall", shown.code, hall, desks, until, *(["--reserved"] if form.get("reserved") else [])])
-    return Plan(values, [*new, import_step("openings", values)], shown.page, "hall", {20: "desks"}, form_page=page,
-                command=", ".join([*(step.title() for step in new), named]))
+    new = [import_step("halls", values)] if is_new else []
+    named = ["open-hall", *(values[name] for name in ("session", "hall", "desks", "until")),
+             *(["--reserved"] if values["reserved"] == "yes" else [])]
+    return Plan({**values, "is_open": "yes" if values["hall"] in shown.halls else ""},
+                [*new, import_step("openings", values)], shown.page, "hall", {20: "desks"}, form_page=page,
+                command=", ".join([*(step.title() for step in new), " ".join(named)]))
 
 
 def open_hall(form: Form) -> Plan:
@@ -240,9 +240,7 @@ def change_row(kind: str, form: Form) -> Plan:
     if not view().row(f"SELECT 1 FROM {table} WHERE code = ?", [code]):
         abort(404)
     page = {"paper": ("session.paper", {"paper": code}), "hall": shown.hall_page(code)}.get(table, shown.page)
-    sets = [name for name in columns if files.RIGHT[name] is files.is_features]
-    values = checked(page, form, **{name: name for name in columns if name not in sets})
-    values |= {table: code, **{name: features(form, name) for name in sets}}
+    values = {table: code, **checked(page, form, **dict(zip(columns, columns)))}
     beside = "session" if "session" in columns else columns[0]
     return Plan(values, [import_step(kind, values)], shown.page, beside, form_page=page)
 

@@ -159,12 +159,12 @@ def read_books(upload: Upload) -> None:
     known, there = mistakes.Known(view().reading.rows), {folded(sheet.name) for sheet in book.sheets}
     for kind, rows in brought.items():
         known.take(kind, rows)
-    takes, names = upload.hidden == "take", [sheet.name for sheet in book.sheets]
+    names = [sheet.name for sheet in book.sheets] if upload.hidden == "take" else None
+    leave = [sheet.name for sheet in book.sheets if sheet.hidden and upload.hidden == "leave"]
     given = {kind: says for kind, says in (upload.given or {}).items()
              if len(upload.books) == 1 or not says.sheet or folded(says.sheet) in there}
-    job = tables.Job(known, upload.way, given, names if takes else None, hidden=upload.hidden, report=upload.report,
-              leave=[sheet.name for sheet in book.sheets if sheet.hidden and upload.hidden == "leave"],
-              days={code.decode(): day.decode() for code, day, _ in brought.get("sessions", [])})
+    days = {code.decode(): day.decode() for code, day, _ in brought.get("sessions", [])}
+    job = tables.Job(known, upload.way, given, names, leave, hidden=upload.hidden, report=upload.report, days=days)
     try:
         take_rows(upload, ", ".join(name for name, _ in upload.books), read_book(book, job).records)
     except Trouble as trouble:

@@ -20,7 +20,6 @@ COMMAND = re.compile("(`[^`]+`)")
 NAMED = re.compile("`office (?P<name>[a-z-]+) ?(?:(?P<number>[0-9]{7}) .*|.*)`")
 PAGES = {"back": "office.page", "init": "season.page", "look": "candidates.find"}  # by the command that does the same
 MOST_LETTERS = 10  # of a name at a desk
-RIGHT_TO_LEFT = ("ar", "fa", "he", "ur")
 LANGUAGES: dict[str, dict[str, str]] = {
     path.stem: json.loads(path.read_text("utf-8"))
     for path in sorted((pathlib.Path(__file__).parent / "languages").glob("*.json"))}
