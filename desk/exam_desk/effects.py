@@ -1,7 +1,6 @@
 """What a change does to candidates, sessions and papers: from two readings of an office, before and after it; then, in
 short, in lines for a terminal."""
 import functools
-import itertools
 import sqlite3
 from collections import Counter
 from collections.abc import Collection, Iterable, Iterator, Mapping
@@ -45,13 +44,12 @@ Groups = dict[str, list[Met]]  # whom a change meets, by kind, the gravest first
 class Effects:
     """Whom a change meets in which way. Where nobody has a seat yet, nobody can lose or change one."""
 
-    def __init__(self, before: Reading, after: Reading, most_clashes: int | None = None) -> None:
-        """Of new clashes the first ones, or all."""
+    def __init__(self, before: Reading, after: Reading) -> None:
         self.before, self.after = before, after
         self.touched = telling.touched(before, after)
         self.kinds = telling.by_kind(telling.of_touched(before, after, self.touched) if has_seats(before) else [])
         self.changes = [*dict.fromkeys(each for part in self.kinds.values() for each in part)]
-        self.clashes = [*itertools.islice(new_clashes(before, after, self.touched), most_clashes)]
+        self.clashes = [*new_clashes(before, after, self.touched)]
         self.overlaps = with_people(after, overlaps.new(before, after, [*self.touched]))
         self.over = over(self)
         self.out_of_date = {code: papers for code, people in self.touched.items()

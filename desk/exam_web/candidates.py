@@ -8,7 +8,7 @@ from flask import Blueprint, abort, redirect, render_template, request, url_for
 from werkzeug.datastructures import MultiDict
 from werkzeug.wrappers import Response
 
-from exam_desk import coding, effects, facts, files, lists, notebook, on_paper, overlaps, second_sitting, typed
+from exam_desk import coding, effects, facts, files, lists, notebook, overlaps, second_sitting, typed
 from exam_desk.changing import Step
 from exam_desk.reading import Person
 from exam_desk.sheets import slips as slip_pages
@@ -18,7 +18,7 @@ from exam_web.desk import (Form, Page, Wrong, at_field, candidate_row, checked, 
                            styled, sums, tell_papers, view)
 from exam_web.proposals import APPEALS, BY_DAY, PLANS, TROUBLE, Plan, command, import_step
 from exam_web.session import Session
-from exam_web.wording import link, said, text
+from exam_web.wording import link, text
 
 pages = Blueprint("candidates", __name__)
 appeal_pages = Blueprint("appeals", __name__)
@@ -85,7 +85,7 @@ def note(number: int) -> Response:
         raise Wrong(page_of, note=wrong)
     notebook.take_notes(office(), {f"{number:07}": given})
     told = text("The note is kept.") if given else text("There is no note on this candidate.")
-    tell_papers(on_paper.otherwise(office(), {f"{number:07}": given}, {}))
+    tell_papers()
     return lead("candidates.page", told, number=number)
 
 
@@ -106,8 +106,7 @@ def slips(number: int | None = None) -> str:
             groups = files.texts_by_number(brought.stream.read(), brought.filename or "", *slip_pages.GROUP)
     of_one = [Session(session).code for session in [request.form.get("session", "")] if session]
     choice = slip_pages.Choice(of_one, only, "codes" in request.form, bool(only or of_one), groups)
-    return styled(slip_pages.page(view().reading, choice),
-                  map(said, slip_pages.beside_groups(view().reading, groups)))
+    return styled(slip_pages.page(view().reading, choice))
 
 
 @appeal_pages.get("/appeals", endpoint="page")

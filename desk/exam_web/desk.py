@@ -11,7 +11,7 @@ import sqlite3
 import threading
 import weakref
 from collections import Counter
-from collections.abc import Callable, Iterable, Iterator, Mapping, Sequence
+from collections.abc import Callable, Iterator, Mapping, Sequence
 from dataclasses import dataclass, field
 from typing import Any, Concatenate, NamedTuple, ParamSpec, TypeVar
 
@@ -25,7 +25,7 @@ from werkzeug.wrappers import Response
 from exam_desk import effects, facts, files, mistakes, on_paper, private, typed, words
 from exam_desk.office import Office, Trouble
 from exam_desk.reading import Reading
-from exam_web.wording import language, said, text
+from exam_web.wording import said, text
 
 ENTERED = "SELECT session, printf('%07d', number) FROM entry JOIN paper ON code = paper WHERE live = 1"
 AT_ONCE = f"{ENTERED} GROUP BY session, number HAVING count(*) > 1"  # who has two live entries in a session
@@ -207,11 +207,11 @@ def lead(endpoint: str, said: Markup | None = None, kind: str = "good", **values
     return redirect(url_for(endpoint, **values), 303)
 
 
-def tell_papers(papers: Mapping[str, on_paper.Papers]) -> None:
-    """Has the next page say which printed papers are out of date now, by session."""
+def tell_papers() -> None:
+    """Has the next page say which printed papers are out of date, by session, since the notebook was changed."""
     g.visit.said += [("bad", text("The papers of {session} are out of date: {halls}", session=session,
                                   halls=", ".join(sorted({*sum(found.values(), [])})) or text("no hall")))
-                     for session, found in papers.items()]
+                     for session, found in on_paper.otherwise(desk().office).items()]
 
 
 def checked(page: Page, form: Form, **columns: str) -> dict[str, str]:
@@ -249,13 +249,11 @@ def keep(found: dict[str, Any], most: int, value: object) -> str:
     return key
 
 
-def styled(page: str, said: Iterable[Markup] = ()) -> str:
-    """A sheet, whose own style the policy of this answer lets through, and no other. What is said of it stands above it
-    on the screen, and is not printed."""
+def styled(page: str) -> str:
+    """A sheet, whose own style the policy of this answer lets through, and no other."""
     style = page[page.index("<style>") + len("<style>"):page.index("</style>")]
     g.style = f" 'sha256-{base64.b64encode(hashlib.sha256(style.encode()).digest()).decode()}'"
-    lines = (Markup('<p role="status" lang="{}">{}</p>\n').format(language(), line) for line in said)
-    return page.replace("<body>\n", "<body>\n" + "".join(lines), 1)
+    return page
 
 
 def attached(content: bytes, name: str, kind: str = "text/csv") -> Response:

@@ -14,7 +14,6 @@ from collections.abc import Callable, Mapping, Sequence
 from dataclasses import dataclass, field
 from functools import partial
 from operator import attrgetter
-from typing import Any
 
 from flask import Blueprint, abort, g, render_template, request, url_for
 from markupsafe import Markup
@@ -45,7 +44,7 @@ TROUBLE = 0  # among the numbers of refusals: what the desk refuses itself
 APPEALS = ("SELECT appeal.*, day, session.start AS start, name FROM appeal JOIN session ON session.code = session "
            "JOIN candidate ON candidate.number = appeal.number ")
 BY_DAY = "ORDER BY day, session.start, lodged, appeal.number"
-KINDS = ["short", *telling.KINDS, "codes"]  # the gravest first; their words are in templates/effects.html
+KINDS = ["short", *telling.KINDS]  # the gravest first; their words are in templates/effects.html
 NUMBERS = attrgetter("members", "desks", "short", "clashes")  # of a session
 
 
@@ -67,13 +66,8 @@ class Effects(effects.Effects):
         short = set() if self.changes else sittings(after, UNSEATED) - sittings(before, UNSEATED)
         self.short = [(code, person) for code in are for person in effects.by_name(
             now, [number for session, number in short if session == code])][:MOST_ROWS]
-        who: dict[str, list[Any]] = {kind: [each.number for each in part] for kind, part in self.kinds.items()} | {
-            "over": list(self.over), "past": self.past, "opened": list(self.opened), "shut": self.shut,
-            "short": [number for _, number in short],
-            "clashes": [person.number for _, person, _ in self.clashes],
-            "twice": [person.number for _, people in self.overlaps for person in people],
-            "halls": [(each.early, each.late, hall) for each, _ in self.overlaps for hall in each.halls],
-            "codes": [person.number for person in self.codes]}
+        who = {kind: effects.who(kind, found) for kind, found in self.met.items() if kind != effects.PRINTED} | {
+            "short": [number for _, number in short]}
         self.counts = {kind: telling.people_and_sittings(who[kind]) for kind in KINDS if who.get(kind)}
         self.titles = telling.titles_of(then, now)
 
@@ -223,7 +217,7 @@ def rehearse(plan: Plan, here: Desk, who: Office) -> None:
             after = View(here.office, rehearsal.after)
             looked = plan.look(before.reading, after.reading)
             plan.effects = met = Effects(before, after)
-            plan.lines = [*looked, *effects.notes(before.reading, after.reading, effects.groups(met), False)]
+            plan.lines = [*looked, *met.notes()]
             plan.made_from, plan.promised = before.name, after.name
 
 

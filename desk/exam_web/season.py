@@ -98,7 +98,7 @@ def of_sessions(found: list[Sums], is_whole: bool) -> Iterator[Attention]:
                             url_for("clashes.page", session=each.code), {**here, "count": twice[each.code]})
         if is_whole and (paper := on_paper.compared(view().reading, each.code)) and not paper.holds():
             yield Attention(soon, each.day, "printed", place_of(each.code, "print"),
-                            {**here, "count": len(paper.moves), "halls": paper.halls})
+                            {**here, "count": len(paper.moves), "halls": paper.halls()})
 
 
 def place_of(code: str, place: str) -> str:
