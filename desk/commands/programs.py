@@ -207,7 +207,7 @@ class Lodging(Change):
         status = said(*lodged)
         if not status:
             command.say("lodging moves nobody; if you granted it afterwards:\n")
-            grant = Step(("decide", *lodged.first_line().split()[:2], "granted", ""))
+            grant = lodging.grant(lodged)
             rehearsal.answers.append(Answered(grant, running.run_over(rehearsal.office, rehearsal.after, *grant.words)))
             said(*rehearsal.answers[-1])
         return status

@@ -48,7 +48,7 @@ def remedies(rows: Rows, why: Reasons, sheet: Shortage) -> Iterator[Remedy]:
     for code, title, mask in rows.execute("SELECT code, title, features FROM hall ORDER BY code"):
         now, taken = opened.get(code), len(why.taken[code])
         base = now or Opening(code, title, mask, 0, usual, False)
-        for reserved in {base.reserved, False}:
+        for reserved in dict.fromkeys([base.reserved, False]):
             widest = base._replace(until=MIDNIGHT, reserved=reserved)
             ends = sorted(of_day(member.sitting.finish) for member in people
                           if member.sitting.hall != code and not why.obstacles(member, widest))[:sheet.unseated]

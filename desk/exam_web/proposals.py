@@ -143,7 +143,7 @@ class Plan:
         if self.refusal:
             return []
         self.lodged = lodged.first_line().split()[1]
-        return [Step(("decide", self.lodge[0], self.lodged, "granted", ""))]
+        return [lodging.grant(lodged)]
 
 
 PLANS: dict[str, Callable[[Form], Plan]] = {}  # what forms ask, by the name of the form; screens put theirs in

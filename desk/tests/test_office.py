@@ -219,7 +219,6 @@ class Words(sample.SampleSchool):
                             (["lodge", "1051x", "mon-am"], "number '1051x': seven digits; session 'mon-am': write MON-AM (1 "
                              "to 12 of A-Z, 0-9 and -); kind of appeal is missing"),
                             (["lodge", "0001051", "MON-AM", "hall", "PC1"], "reason is missing"),
-                            (["lodge", "0001051", "arrangement", "quiet", "0", "x"], "session is missing\n"),
                             (["lodge", "0001051", "MON-AM", "arrangement", "-", "30%", "x"], "extra '30%': write 30")):
             done = self.run_office(*words)
             self.assertEqual((done.returncode, done.stdout), (2, ""), words)
