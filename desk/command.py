@@ -32,7 +32,7 @@ DESK = os.path.dirname(os.path.realpath(__file__))
 OFFICE = os.path.join(DESK, "office")
 MOST_LINE = 1 << 16  # bytes of a line on standard input
 MANY, FEW = 500, 100  # of so many questions, the progress is shown after each few
-READ_AS: dict[str, Callable[[str], str]] = {"number": typed.number}  # by the name of an argument
+READ_AS: dict[str, Callable[[str], object]] = {"number": typed.number, "across": int}  # by the name of an argument
 CLEAR = "\r\x1b[K"  # a terminal takes away the line on which it writes
 
 

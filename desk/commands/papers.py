@@ -10,113 +10,61 @@ import command
 from exam_desk import typed
 from exam_desk.office import Office, Trouble
 
-PAGES = {  # the words that each takes, as in `command.given`, and what `--help` prints
-    "board": ("session", """Prints a notice board of a session, by name: board SESSION >board.html
+PAGE = """Prints {} of a session: {} SESSION{} >{}.html
 
-A page for a browser, two columns on A4, with the hall and the desk of each candidate. Only namesakes have their numbers
-beside the name. Print it after the last change.
-"""),
-    "cards": ("session hall*", """Prints cards for the desks of a session: cards SESSION [HALL ..] >cards.html
+{}
+It is a page for a browser, made for A4{}.
+"""
+OF_HALLS = "; each hall begins a page, and one in which nobody sits has none"
+PAPERS = {  # what each is, and what `--help` says of it
+    "board": ("a notice board", """\
+By name, in two columns, with the hall and the desk. Only namesakes have their numbers beside the name."""),
+    "cards": ("cards for the desks", """\
+Ten on a sheet, by hall and desk: desk, name, number, paper, start and hall."""),
+    "chart": ("the seating charts", """\
+Each hall as rows of desks, with the name, number and paper of who sits there. `office rows GYM 8` says once how the
+desks of a hall stand. A line says of which halls there is no chart yet."""),
+    "counts": ("the copies of papers for each hall", """\
+A row for each hall and paper, with the last finish and boxes to tick, then the sums by paper. Candidates without a desk
+have rows of their own at the end."""),
+    "doors": ("the invigilators' sheets", """\
+By desk the number, name, paper, finish, arrangement and note of each candidate, and a box to sign. It is private: the
+door gets `office poster`, and candidates sign `office signatures`."""),
+    "poster": ("the posters for the doors", """\
+A heading that is read from afar, and by name the desk of each candidate. Only namesakes of the session, in whichever
+halls, have their numbers beside the name. It shows no paper and no arrangement."""),
+    "signatures": ("the lists to sign", """\
+By desk number, name and paper of each candidate, and a box to sign. It shows no arrangement, note or finish."""),
+}
+WHOLE = ["board", "counts"]  # of the whole session alone
 
-A page for a browser, ten cards on a sheet of A4, by hall and desk: desk, name, number, paper, start and hall. Each hall
-begins a sheet.
-"""),
-    "chart": ("session hall*", """Draws the seating charts of a session: chart SESSION [HALL ..] >chart.html
 
-    office rows GYM 8               once for each hall: how its desks stand
-    office chart MON-AM >chart.html
+def print_paper(name: str, parser: command.Parser) -> None:
+    from exam_desk.sheets import papers
+    session, *halls = vars(command.given(parser, "session", *([] if name in WHOLE else ["hall*"]))).values()
+    with command.reading() as reading:
+        text = papers.page(reading, name, session, *halls)
+    (command.say_private if name == "doors" else command.say)(text)
 
-A page for a browser, on A4: each hall as rows of desks, with the name, number and paper of who sits there. A line says
-of which halls there is no chart yet.
-"""),
-    "counts": ("session", """\
-Prints how many copies of each paper each hall needs, and the last finish: counts SESSION >counts.html
 
-A page for a browser, on A4: a row for each hall and paper, then the sums by paper. Candidates without a desk have rows
-of their own at the end.
-"""),
-    "doors": ("session hall*", """\
-Prints the invigilators' sheets of a session, each hall on a page of its own: doors SESSION [HALL ..] >doors.html
+for name, (what, text) in PAPERS.items():
+    words = ("", "") if name in WHOLE else (" [HALL ..]", OF_HALLS)
+    command.COMMANDS[name] = command.Command(PAGE.format(what, name, words[0], name, text, words[1]),
+                                             functools.partial(print_paper, name))
 
-A page for a browser, on A4: by desk the number, name, paper, finish, arrangement and note of each candidate, and a box
-to sign. The heading stands on each page again. A hall in which nobody sits has no sheet. It is for invigilators: who
-has which arrangement is private. For the door take `office poster`, for candidates to sign `office signatures`.
-"""),
-    "poster": ("session hall*", """Prints the posters for the doors of a session: poster SESSION [HALL ..] >poster.html
 
-A page for a browser, on A4: each hall from a page of its own on, with a heading that is read from afar, and by name the
-desk of each candidate in three columns. Only namesakes of the session, in whichever halls, have their numbers beside
-the name, so each knows which door is theirs. It shows no paper and no arrangement.
-"""),
-    "signatures": ("session hall*", """\
-Prints the lists that the candidates of a session sign: signatures SESSION [HALL ..] >signatures.html
-
-A page for a browser, on A4: each hall from a page of its own on, by desk number, name and paper of each candidate, and a
-box to sign. It shows no arrangement, no note and no finish; the invigilators' sheets of `office doors` have these.
-"""),
-    "summary": ("session*", """\
+@command.named("""\
 Prints a line for each session, with all its counts: summary [SESSION ..]
 
 They are members, seated, short, desks, free, clashes, overlaps, open appeals. A NOTE names two sessions at one time.
 Clashes are the candidates who miss a paper there, since another one is at the same time: `office clashes SESSION`.
 Free desks beside candidates who are short are in halls that do not suit them: `office why SESSION` says why.
-"""),
-}
-
-
-def print_page(name: str, words: str, parser: command.Parser) -> None:
-    """Prints the page that the function of this name makes."""
-    from exam_desk.sheets import papers, texts
-    make = texts.summary if name == "summary" else getattr(papers, name)
-    session, *halls = vars(command.given(parser, *words.split())).values()
-    with command.reading() as reading:
-        text = make(reading, session, *halls)
-        (command.say_private if name == "doors" else command.say)(text)
-
-
-for page, (taken, text) in PAGES.items():
-    command.COMMANDS[page] = command.Command(text, functools.partial(print_page, page, taken))
-
-
-def warned(faults: list[str]) -> bool:
-    """Says in what the printed shortage differs, and whether it does."""
-    for fault in faults:
-        command.warn(f"the printed shortage says otherwise: {fault}")
-    return bool(faults)
-
-
-@command.named("""\
-Prints the door lists, the attendance sheets and the clash list of a session as text: print-session SESSION | lp
-
-Each sheet is as the program prints it, from one state of the office, and begins a new page. They are made from what the
-program answers for each candidate; a dozen are compared with its own, and where one differs, nothing is printed and the
-status is 1. The heading stands on each page again, and a line that is too long goes on in the next, indented. A hall
-in which nobody sits has no sheet, nor has a paper that nobody sits.
 """)
-def print_session(parser: command.Parser) -> None:
-    from exam_desk.sheets import printing
-    parser.add_argument("--lines", type=int, default=60, help="of a page, 60 if not given")
-    parser.add_argument("--columns", type=int, default=76, help="of a line, 76 if not given")
-    given = command.given(parser, "session")
-    if given.lines < 10 or given.columns < 40:
-        raise Trouble("a page has 10 lines of 40 letters at least")
+def summary(parser: command.Parser) -> None:
+    from exam_desk.sheets import texts
+    given = command.given(parser, "session*")
     with command.reading() as reading:
-        command.say(printing.text(reading, given.session, given.lines, given.columns, command.progress))
-
-
-@command.named("""\
-Writes one HTML page of a session, with shortage, clashes and appeals: session-page SESSION >mon-am.html
-
-The page needs no other file, and prints on A4. The shortage is the program's sheet; of those without a desk the page
-says why, hall by hall. All is of one state of the office. If the program refuses the sheet, nothing is written.
-""")
-def session_page(parser: command.Parser) -> bool:
-    from exam_desk.sheets.session_page import Page
-    given = command.given(parser, "session")
-    with command.reading() as reading:
-        page = Page(reading, given.session)
-        command.say_private(page.document())
-    return warned(page.faults)
+        command.say(texts.summary(reading, given.session))
 
 
 @command.named("""\
@@ -125,14 +73,12 @@ Prints a slip of paper for each candidate, to be cut out and handed over: slips 
     office slips >slips.html                          everybody, all sessions
     office slips MON-AM MON-PM --codes >slips.html    the sessions of a day, with the access codes
 
-Without --desks a slip has no desk number: whoever withdraws or joins gives others in the hall another one, so print
-them late. A page for a browser, five or so slips on a sheet of A4, by name: number, days, times with the own finish,
-papers and halls by title, and the arrangement in force. With --order each group begins a page, in the order in which
-the file has them, and who is in none comes last. The CSV has a row for each candidate and session, and no formula.
+Without --desks a slip has no desk number: whoever withdraws or joins gives others in the hall another one. A page for a
+browser, by name: number, days, times with the own finish, papers and halls by title, and the arrangement in force. With
+--order each group begins a page, in the order in which the file has them, and who is in none comes last.
 """)
 def slips(parser: command.Parser) -> None:
     from exam_desk import files
-    from exam_desk.reading import of_few
     from exam_desk.sheets import slips
     parser.add_argument("--only", action="append", default=[], metavar="NUMBER", type=typed.candidate_number,
                         help="this candidate; may be given again")
@@ -143,14 +89,8 @@ def slips(parser: command.Parser) -> None:
         files.read(given.order, command.warn), given.order, *slips.GROUP)
     choice = slips.Choice(given.session, given.only, given.codes, given.desks, groups)
     make = slips.csv_text if given.csv else slips.page
-    if choice.only:
-        command.say_private(of_few(command.office(), lambda reading: make(reading, choice)))
-        return
     with command.reading() as reading:
-        text = make(reading, choice)
-        for line in slips.beside_groups(reading, groups):
-            command.warn(line)
-    command.say_private(text)
+        command.say_private(make(reading, choice))
 
 
 @command.named("""\
@@ -171,10 +111,9 @@ def appeals_open(parser: command.Parser) -> None:
     office changes backup/2027-05-30             since the copy in this folder
     office changes 1 --tell --paper >told.html   since copy 1 of `office back`, with a box to tick for each
 
-BACKUP is a folder with the two files, the file itself, or the number of a copy. Who lost the desk comes first, then who
-lost a need, who sits another paper, in another hall, or at another time, who has another name, who misses other papers,
-and last whose desk alone is another. A line of these last ones begins with no !: they need not be told. In the CSV an
-apostrophe stands in front of a text that a spreadsheet would take for a formula.
+BACKUP is a folder with the two files, the file itself, or the number of a copy. The gravest come first: who lost the
+desk. A line of those whose desk alone is another begins with no !: they need not be told. In the CSV an apostrophe
+stands in front of a text that a spreadsheet would take for a formula.
 """)
 def changes(parser: command.Parser) -> None:
     from exam_desk import telling
@@ -192,7 +131,7 @@ def changes(parser: command.Parser) -> None:
         elif given.paper:
             text = papers.changes(before, after, told, since)
         else:
-            text = telling.text(found, given.tell)
+            text = telling.text(told)
     command.say_private(text)
 
 
@@ -211,29 +150,6 @@ def backup(office: Office, path: str) -> tuple[str, str]:
     return path, f"Since {path}"
 
 
-@command.named("""Adds up a printed shortage: check-shortage SHEET
-
-    office shortage MON-AM >sheet.txt
-    office check-shortage sheet.txt       # - reads what comes in
-
-It prints `right` with the sum, or a line for each fault, and then ends with status 1.
-
-Halls are rows of the office's file; what each candidate needs, and until when, is what the program says. Why the sheet
-proves that desks are short: its candidates can sit only in its halls, which have fewer desks than they are. So every
-plan leaves as many without one as the sheet counts. `examples/check-office` trusts nothing that the program says.
-""")
-def check_shortage(parser: command.Parser) -> bool:
-    from exam_desk import files, lists, reasons
-    printed = files.read(command.given(parser, "sheet").sheet, command.warn)
-    sheet = reasons.read_sheet(printed.decode("utf-8", "replace"))
-    with command.reading() as reading:
-        found = list(reasons.Reasons(reading, sheet.session).faults(sheet))
-    right = (f"right: {lists.count(sheet.candidate_count, 'candidate')} = {lists.count(sheet.desks, 'desk')}"
-             f" + {sheet.unseated} unseated")
-    command.say_lines(found or [right])
-    return bool(found)
-
-
 @command.named("""Shows what the office knows of a candidate: look NAME|NUMBER, or look --clashes [SESSION ..]
 
     office look ferrari ada       everybody whose name has these words, without regard to capitals and accents
@@ -243,7 +159,6 @@ Entries with seats, arrangements, and appeals with reasons and answers.
 """)
 def look(parser: command.Parser) -> None:
     from exam_desk import facts
-    from exam_desk.reading import of_few
     from exam_desk.sheets import texts
     parser.add_argument("words", nargs="*", metavar="NAME|NUMBER|SESSION")
     given = command.given(parser, "--codes: with the access code", "--clashes: who has two papers at once")
@@ -253,7 +168,8 @@ def look(parser: command.Parser) -> None:
                      for line in texts.papers_at_once(reading, head["code"])] or ["nobody has two papers at once"]
     elif given.words:
         asked = " ".join(given.words)
-        lines = of_few(command.office(), lambda reading: texts.asked_lines(reading, asked, given.codes))
+        with command.reading() as reading:
+            lines = texts.asked_lines(reading, asked, given.codes)
     else:
         parser.error("name a candidate")
     command.say_lines(lines, is_private=True)
@@ -268,7 +184,7 @@ Each later change of sessions, papers or halls writes the file again; remove it 
 read it: it has nothing of any candidate.
 """)
 def titles(parser: command.Parser) -> None:
-    from exam_desk import beside, titles
+    from exam_desk import titles
     given = command.given(parser, "file?: a file to write; without it the titles are printed")
     with command.rows() as rows:
         text = titles.text(rows)
@@ -276,10 +192,7 @@ def titles(parser: command.Parser) -> None:
         command.say(text)
         return
     titles.put(given.file, text)
-    try:
-        titles.keep(command.office(), given.file)
-    except (OSError, beside.Strange) as fault:
-        command.warn(f"NOTE no change writes it again: {fault}")
+    titles.keep(command.office(), given.file)
 
 
 @command.named("""Says why candidates have no desk, hall by hall, and what could help: why SESSION [NUMBER].
@@ -301,4 +214,6 @@ def why(parser: command.Parser) -> bool:
         helpful = [] if number else remedies.lines(reading.rows, found, printed)
     command.say_private(found.text(number))
     command.say_lines(helpful)
-    return warned(faults)
+    for fault in faults:
+        command.warn(f"the printed shortage says otherwise: {fault}")
+    return bool(faults)

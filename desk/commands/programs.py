@@ -174,7 +174,7 @@ def rehearsed(change: Change) -> Iterator[tuple[int, Rehearsal]]:
         if change.copy or done - {MIGRATE}:
             with command.reading(rehearsal.before) as before, command.reading(rehearsal.after) as after:
                 command.say_lines([*map(str, change.own(before, after) if change.own else []),
-                                   *effects.between(before, after, change.most, bool(change.copy))])
+                                   *effects.between(before, after, change.most)])
         yield status, rehearsal
 
 

@@ -36,16 +36,16 @@ def desk(parser: command.Parser) -> None:
     given = command.given(parser, "--link: print another link of the desk that runs")
     office = command.office()
     try:
-        from exam_web import serving
+        from exam_web import application
     except ModuleNotFoundError as fault:
         raise Trouble(MISSING.format(fault.name)) from None
     if given.link:
-        command.say(serving.another_link(office) + "\n")
+        command.say(application.another_link(office) + "\n")
         return
     output = os.fstat(sys.stdout.fileno())
     is_journal = os.environ.get("JOURNAL_STREAM") == f"{output.st_dev}:{output.st_ino}"  # no link is to stand there
     ports = range(FIRST, FIRST + PORTS) if given.port is None else [given.port]
-    serving.serve(office, ports, bool(os.environ.get("TODAY")),
+    application.serve(office, ports, bool(os.environ.get("TODAY")),
                   lambda link: None if is_journal else command.say(READY.format(office.path, link)))
 
 

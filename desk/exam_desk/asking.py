@@ -6,9 +6,7 @@ at who listens does not help before the connection: it says nothing of who is th
 listens is looked at after the connection and before the first byte. A process that listens once in its life, that
 listened before the connection and still does, is at its other end.
 """
-import collections
 import contextlib
-import itertools
 import os
 import re
 import socket
@@ -24,7 +22,6 @@ from exam_desk.office import Office, Trouble
 HOST = "127.0.0.1"
 HEAD_END = b"\r\n\r\n"
 PEER = "3i"  # struct ucred of unix(7): process, user, group
-AT_ONCE = 4  # connections: while `serve` answers the first, the next are made
 SECONDS = 60  # that an answer may take
 TRIES = 5  # of a `serve` that ends before it has answered, or whose port another process takes
 
@@ -99,24 +96,16 @@ class Serve:
 def ask_all(server: Server, requests: Sequence[bytes], found: list[bytes], progress: Progress) -> list[bytes]:
     """The body of each answer, added to those that are found already. Raises OSError where no whole one comes, and
     `Trouble` where one has another status than 200."""
-    waiting: collections.deque[socket.socket] = collections.deque()
-    left = iter(requests[len(found):])
-    try:
-        while len(found) < len(requests):
-            waiting.extend(sent(server, request, SECONDS)
-                           for request in itertools.islice(left, AT_ONCE - len(waiting)))
-            answer = received(waiting.popleft())
-            body = answer.partition(HEAD_END)[2]
-            if not (status := status_of(answer)):
-                raise ConnectionError("the answer is not whole")
-            if status != 200:
-                raise Trouble(f"the program answered {status} {body.decode('utf-8', 'replace')[:60]}")
-            found.append(body)
-            progress(len(found), len(requests))
-        return found
-    finally:
-        for connection in waiting:
-            connection.close()
+    for request in requests[len(found):]:
+        answered = answer(server, request, SECONDS)
+        body = answered.partition(HEAD_END)[2]
+        if not (status := status_of(answered)):
+            raise ConnectionError("the answer is not whole")
+        if status != 200:
+            raise Trouble(f"the program answered {status} {body.decode('utf-8', 'replace')[:60]}")
+        found.append(body)
+        progress(len(found), len(requests))
+    return found
 
 
 def address(place: str) -> tuple[socket.AddressFamily, tuple[str, int] | str]:
@@ -130,33 +119,20 @@ def shown(place: str) -> str:
 
 
 def answer(server: Server, request: bytes, seconds: float) -> bytes:
-    """All that a server answers before it closes the connection. Raises as `sent`."""
-    return received(sent(server, request, seconds))
-
-
-def sent(server: Server, request: bytes, seconds: float) -> socket.socket:
-    """A connection over which a request went, as far as the server took it. Raises `Stranger`, or another OSError where
-    nobody listens; each wait for the server lasts so long at most."""
+    """All that a server answers before it ends the connection, in whatever way. Raises `Stranger`, another OSError
+    where nobody listens, and TimeoutError where a wait for the server lasts longer."""
     family, where = address(server.place)
-    with contextlib.ExitStack() as stack:  # closes it where anything is raised
-        connection = stack.enter_context(socket.socket(family))
+    parts = []
+    with socket.socket(family) as connection:
         connection.settimeout(seconds)
         connection.connect(where)
         refuse_stranger(connection, server)
         with contextlib.suppress(OSError):  # what it answered before can be received
             connection.sendall(request)
             connection.shutdown(socket.SHUT_WR)
-        stack.pop_all()
-    return connection
-
-
-def received(connection: socket.socket) -> bytes:
-    """All that comes over a connection before it ends, in whatever way; it is closed then. Raises TimeoutError where a
-    wait lasts too long."""
-    parts = []
-    with connection, contextlib.suppress(ConnectionError):
-        while part := connection.recv(1 << 16):
-            parts.append(part)
+        with contextlib.suppress(ConnectionError):
+            while part := connection.recv(1 << 16):
+                parts.append(part)
     return b"".join(parts)
 
 

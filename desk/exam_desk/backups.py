@@ -96,7 +96,7 @@ def notes_of(archive: zipfile.ZipFile, folder: str) -> dict[str, str]:
     for part in archive.infolist():
         [*_, place, base] = ["", "", *pathlib.PureWindowsPath(part.filename).parts]
         match = notebook.NAME.fullmatch(base) if place == notebook.PLACE else None
-        if match and match[1] in notebook.WORDS and (match[2] is None or files.is_code(match[2].encode())):
+        if match and match[1] in notebook.KINDS and (match[2] is None or files.is_code(match[2].encode())):
             if part.file_size > MOST_NOTES:
                 raise Trouble(TOO_LARGE)
             json.loads(archive.read(part))

@@ -60,13 +60,10 @@ def user_name(number: int) -> str:
 def refuse_stranger(office: str) -> None:
     """Raises `Strange` where the office belongs to another, who could not use afterwards what is made beside it."""
     with contextlib.suppress(FileNotFoundError):
-        owner = os.stat(office).st_uid
-        if owner != os.geteuid():
-            name, folder_owner = user_name(owner), os.stat(os.path.dirname(os.path.realpath(office))).st_uid
-            if owner == 0 != folder_owner:  # as a copy that root has brought
-                raise Strange(f"the office belongs to root: give it to its user, as root: `chown -R "
-                              f"{user_name(folder_owner)}: office.db* desk-office.db`")
-            raise Strange(f"the office belongs to {name}: work as that user, as with `sudo -u {name} office ..`")
+        if (owner := os.stat(office).st_uid) != os.geteuid():
+            name = user_name(owner)
+            raise Strange(f"the office belongs to {name}: work as that user, as with `sudo -u {name} office ..`; one "
+                          "that root has brought is given to its user by `chown -R USER: office.db* desk-office.db`")
 
 
 def make_folder(office: str, *names: str) -> str:

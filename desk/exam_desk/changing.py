@@ -21,15 +21,13 @@ from dataclasses import dataclass
 from io import FileIO
 from typing import NamedTuple
 
-from exam_desk import (beside, copies, files, lists, logbook, notebook, private, refusals, running, snapshot,
-                       titles, turns)
+from exam_desk import (beside, copies, files, logbook, notebook, private, refusals, running, snapshot, titles,
+                       turns)
 from exam_desk.office import Office, Stale, Trouble
 from exam_desk.words import Said, few
 
 PAUSE = 0.2  # seconds from one try to the next
-BLIND = 0.5  # seconds of tries where nobody is seen to have the file, who may have let go just then
 MOST_NAMED = 3  # sessions, candidates, papers or halls in the title of a change
-HELD = "SELECT (SELECT count(*) FROM candidate), (SELECT count(*) FROM session)"
 Tell = Callable[[str], None]  # hears which step begins
 
 
@@ -147,7 +145,8 @@ def carry_out(office: Office, steps: Sequence[Step], made_from: str | None = Non
     """
     office.today()  # a day that is none is said before anything begins
     if not os.path.isfile(office.path):  # the program says so
-        return Carried([Answered(steps[0], run_patiently(office, steps[0]))], None, None)
+        ran = running.run_over(office, office.path, *steps[0].words, data=steps[0].data)
+        return Carried([Answered(steps[0], ran)], None, None)
     title = title or ", ".join(step.title() for step in steps)
     with unchanged(office), turn(office, title, made_from) as lock, copied(office, title) as copy:
         if len(steps) == 1:
@@ -215,16 +214,14 @@ def unchanged(office: Office) -> Iterator[None]:
 
 
 def run_patiently(office: Office, step: Step, lock: FileIO | None = None, copy: str = "") -> running.Ran:
-    """Runs the program over the office, and tries again for some time while another process has the file; not where the
-    step is there all the same, by the copy from before it."""
+    """Runs the program over the office, and again while waiting may help; not where the step is there all the same, by
+    the copy from before it."""
     began = time.monotonic()
     while True:
         ran = running.run_over(office, office.path, *step.words, data=step.data, lock=lock)
-        waited = time.monotonic() - began
-        with contextlib.suppress(OSError):  # what it looks at goes away just then
-            if refusals.number_of(ran.complaint) != 23 or waited > (
-                    turns.PATIENCE if refusals.is_busy(office) else BLIND):
-                return ran
+        if refusals.number_of(ran.complaint) != 23 or time.monotonic() - began > refusals.patience(office):
+            return ran
+        with contextlib.suppress(OSError):  # the file is gone just then
             if copy and not copies.is_as_now(office, copy):
                 return ran
         time.sleep(PAUSE)
@@ -306,14 +303,14 @@ def way_back(copy: str) -> str:
 
 
 def way_on(office: Office, found: logbook.Unfinished) -> str:
-    """What is said of a change without an end in the log."""
+    """What is said of a change without an end in the log, and which copy takes it back."""
     what = f"`{found.command}` of {found.when} was broken off"
     copy = beside.folder(office.path, copies.PLACE, found.copy)
     if copy not in copies.listed(office):
-        return f"{what}, and has no copy: look whether it is done"
+        return f"{what}, and there is no copy from before it: look what is done"
     with contextlib.suppress(Trouble):
         if state_of(office) == snapshot.name_now(office, copies.file_in(office, copy)):
-            return f"{what}; facts and seats are as before it: give it again"  # an appeal that is refused is no part
+            return f"{what}, and the office is as before: give it again"
     return f"{what}: {way_back(copy)}"
 
 
@@ -328,11 +325,8 @@ def make_new(office: Office) -> running.Ran:
             return running.run_over(office, office.path, *NEW.words)
         if os.path.exists(office.path):
             ran = run_patiently(office, NEW, lock)
-            with contextlib.suppress(Trouble), snapshot.rows(office) as rows:
-                candidates, sessions = rows.execute(HELD).fetchone()
-                if ran.status == 0 and (candidates or sessions):
-                    office.warn(f"NOTE the office is there already, with {lists.count(candidates, 'candidate')} and "
-                                f"{lists.count(sessions, 'session')}: nothing is changed")
+            if ran.status == 0:
+                office.warn("NOTE the office was there already: nothing is changed")
             return ran
         aside, held = notebook.set_aside(office)
         try:

@@ -22,52 +22,41 @@ Tell = Callable[[int, Answered], None]  # hears what became of the row that begi
 
 
 def rows_of(office: Office, command: str, path: str) -> tuple[Rows, list[str]]:
-    """The rows of a file with the header of entries, and a line for each mistake in it, such as an unknown number. That
-    zeros in front of a number are missing is said. Raises `Trouble` where there is no such file, or no row in it."""
-    try:
-        text = files.read(path, office.warn)
-    except OSError as fault:
-        raise Trouble(f"{fault.strerror}; nothing is changed", path) from fault
+    """The rows of a file with the header of entries; a line for each mistake in it. Raises `Trouble` without a row."""
+    text = files.read(path, office.warn)
     file = mistakes.File("entries", checking.office_knows(office))
     given = file.rows(text)
-    typed = [*(given or ())]
-    whole = [*map(file.mended, typed)]
-    wrong, _ = file.looked_through(given and iter(whole))
+    rows = [*map(file.mended, given or ())]
+    wrong, _ = file.looked_through(given and iter(rows))
     if wrong:
         return {}, list(checking.lines_on(os.path.basename(path), wrong, ""))
-    if not whole:
+    if not rows:
         raise Trouble("there is no row; nothing is changed", path)
-    if others := sum(before != after for before, after in zip(typed, whole)):
-        office.warn(f"NOTE {lists.count(others, 'number')} of the file got the zeros in front that were missing")
-    return {record.line: Step((command, *(field.decode() for field in record.fields))) for record in whole}, []
+    return {record.line: Step((command, *(field.decode() for field in record.fields))) for record in rows}, []
 
 
 def of_candidate(office: Office, number: str) -> Rows:
-    """The withdrawal of each entry of a candidate that counts; those of sessions that are over stay, which is said.
-    Raises `Trouble` where there is no such candidate, or nothing to withdraw."""
+    """The withdrawal of each entry of a candidate that is to come. Raises `Trouble` where there is none."""
     number = candidate_number(number)
     with snapshot.rows(office) as rows:
         if number not in facts.candidate_names(rows):
             raise NoCandidate(number)
         entries = rows.execute(COUNTING, [int(number)]).fetchall()
-    over = [paper for paper, day in entries if office.is_over(day)]
     papers = [paper for paper, day in entries if not office.is_over(day)]
-    stay = f"entries in sessions that are over stay: {len(over)} ({few(over)})" * bool(over)
+    over = [paper for paper, day in entries if office.is_over(day)]
+    if over:
+        office.warn(f"NOTE entries in sessions that are over stay: {len(over)} ({few(over)}); "
+                    f"`office withdraw {number} PAPER` withdraws one of them")
     if not papers:
-        raise Trouble(f"{number} is entered for no paper{' from today on' * bool(over)}; nothing is changed"
-                      + (stay and f"; {stay}; `office withdraw {number} PAPER` withdraws one of them"))
-    if stay:
-        office.warn(f"NOTE {stay}")
+        raise Trouble(f"{number} is entered for no paper from today on; nothing is changed")
     return {line: Step(("withdraw", number, paper)) for line, paper in enumerate(papers, 1)}
 
 
 def carry_out(office: Office, title: str, rows: Rows, tell: Tell) -> changing.Carried:
     """Carries out each row by itself, so that one that is refused leaves the others. It stops where the office itself
-    cannot be used, and at a signal; the row that this meets may be done too. The copy from before stays where something
-    may be done. Raises `Trouble` where a turn, the disk or the program is not to be had; the rows before are done then.
-    """
-    answers: list[Answered] = []
-    copy = ""
+    cannot be used, and at a signal; the row that this meets may be done too. Raises `Trouble` where a turn, the disk or
+    the program is not to be had; the rows before are done then."""
+    answers, copy = list[Answered](), ""
     try:
         with contextlib.ExitStack() as whole:
             while not is_over(rows, answers):
@@ -81,11 +70,11 @@ def carry_out(office: Office, title: str, rows: Rows, tell: Tell) -> changing.Ca
     except SystemExit as signal:
         return changing.Carried(answers, copies.kept_if_other(office, copy), None, signal)
     except Trouble as fault:
-        kept(office, answers, copy)
+        copies.kept_if_other(office, copy)
         if not answers:
             raise
         raise Trouble(f"the rows from line {[*rows][len(answers)]} on are not carried out: {fault}") from fault
-    return changing.Carried(answers, kept(office, answers, copy), None)
+    return changing.Carried(answers, copies.kept_if_other(office, copy), None)
 
 
 @contextlib.contextmanager
@@ -103,7 +92,7 @@ def in_one_turn(office: Office, lock: FileIO, rows: Rows, answers: list[Answered
     for line, step in itertools.islice(rows.items(), len(answers), None):
         answers.append(changing.carried(office, lock, step, logbook.STEP))
         tell(line, answers[-1])
-        if time.monotonic() >= until or is_over(rows, answers):
+        if time.monotonic() >= until or is_hopeless(answers):
             break
 
 
@@ -114,11 +103,3 @@ def is_over(rows: Rows, answers: list[Answered]) -> bool:
 def is_hopeless(answers: list[Answered]) -> bool:
     """Whether the last refusal is about the office, so that it would be that of each further row."""
     return bool(answers) and refusals.number_of(answers[-1].ran.complaint) in OF_THE_OFFICE
-
-
-def kept(office: Office, answers: list[Answered], copy: str) -> str | None:
-    """The copy from before; where nothing was done it goes."""
-    if all(changing.has_done_nothing(office, answered, copy) for answered in answers):
-        copies.drop(copy)
-        return None
-    return copy

@@ -1,5 +1,4 @@
-"""What lists and papers share: the order of names, which is one on every machine, whatever its language, and of desks;
-counts and arrangements in words."""
+"""What lists and papers share: orders by name and by desk, counts and arrangements in words."""
 import re
 import unicodedata
 from collections.abc import Collection, Iterable
@@ -16,8 +15,7 @@ Named = TypeVar("Named", Member, Person)
 
 
 def fold(text: str) -> str:
-    """A text without accents, invisible marks and capitals, as people look names up; with one space where a page shows
-    one."""
+    """A text without accents, invisible marks and capitals, as people look names up, with single spaces."""
     parts = unicodedata.normalize("NFKD", unicodedata.normalize("NFKD", text).casefold())
     return " ".join("".join(part for part in parts if not unicodedata.combining(part)
                             and unicodedata.category(part) != "Cf").translate(LETTERS).split())
@@ -34,9 +32,8 @@ def has_words(name: str, words: list[str]) -> bool:
 
 
 def parted(name: str) -> tuple[str, str]:
-    """The surname by which a list has somebody, and the other names. It is what stands before the first comma, as the
-    school writes it; without one, or with nothing before it, the last word. So `van Beethoven, Ludwig` stands under V,
-    and `Ludwig van Beethoven` under B, as in German and Dutch lists."""
+    """The surname by which a list has somebody, and the other names: what stands before the first comma, otherwise the
+    last word. So `van Beethoven, Ludwig` stands under V, and `Ludwig van Beethoven` under B."""
     surname, *others = (part.strip() for part in COMMA.split(" ".join(name.split()), maxsplit=1))
     if not surname or not others:
         *others, surname = COMMA.sub(" ", name).split() or [""]
@@ -58,8 +55,7 @@ def by_desk(members: Iterable[Member], hall: str) -> list[Member]:
 
 
 def halls(reading: Reading, session: str, asked: Collection[str] = ()) -> list[tuple[facts.Opening, list[Member]]]:
-    """The halls that are asked for, or all in which somebody sits, each with who sits there, by desk. Raises `Trouble`
-    where nobody sits in one that is asked for."""
+    """The halls in which somebody sits, or those asked for, each with who does, by desk; `Trouble` for another one."""
     members = reading.members(session)
     found = {opening.hall: (opening, there) for opening in facts.openings(reading.rows, session)
              if (there := by_desk(members, opening.hall))}

@@ -9,21 +9,12 @@ from typing import NoReturn
 from exam_desk import asking, beside, logbook, refusals, snapshot, turns, typed
 from exam_desk.asking import Serve
 from exam_desk.changing import Answered, Step
-from exam_desk.office import Office, Trouble
+from exam_desk.office import NoCandidate, Office, Trouble
 from exam_desk.running import Ran
 
 TRIES, SECONDS = 3, 60
-KINDS = typed.APPEALS
-
-
-def candidate(office: Office, number: str) -> tuple[str, str]:
-    """The access code of a candidate, and the next free reference. Raises `Trouble` where the office has none such."""
-    with snapshot.rows(office) as connection:
-        found = connection.execute("SELECT code FROM candidate WHERE number = ?", [int(number)]).fetchone()
-        refs = {ref for ref, in connection.execute("SELECT ref FROM appeal WHERE number = ?", [int(number)])}
-    if found is None:
-        raise Trouble(f"refused 6: {refusals.SENTENCES[6]}")
-    return found["code"], next(ref for place in itertools.count(1) if (ref := f"D{place}") not in refs)
+CODE = "SELECT code FROM candidate WHERE number = ?"
+REFS = "SELECT ref FROM appeal WHERE number = ?"
 
 
 @contextlib.contextmanager
@@ -62,10 +53,15 @@ def post(server: asking.Server, number: str, code: str, body: bytes) -> dict[str
 def lodge(office: Office, words: Sequence[str]) -> Answered:
     """Lodges what NUMBER SESSION KIND VALUE .. REASON ask, in which nothing is wrong (`typed.wrong_of_lodging`), with
     lines in the log; the answer in the form of a command's. Raises `Trouble` where nothing was answered."""
-    named = dict(zip(["session", "kind", *KINDS[words[2]], "reason"], words[1:]))
+    named = dict(zip(["session", "kind", *typed.APPEALS[words[2]], "reason"], words[1:]))
     values = {name: int(word) if name == "extra" else word for name, word in named.items()}
     beside.refuse_stranger(office.path)
-    code, ref = candidate(office, words[0])
+    with snapshot.rows(office) as rows:
+        [code] = rows.execute(CODE, [int(words[0])]).fetchone() or [None]
+        refs = {ref for ref, in rows.execute(REFS, [int(words[0])])}
+    if code is None:
+        raise NoCandidate(words[0])
+    ref = next(ref for place in itertools.count(1) if (ref := f"D{place}") not in refs)
     body = json.dumps({**values, "ref": ref}, ensure_ascii=False).encode()
     with logbook.logged(office, ["lodge", *words]) as outcome:
         with served(office) as server:
@@ -75,3 +71,9 @@ def lodge(office: Office, words: Sequence[str]) -> Answered:
         outcome.answer = f"refused {answer['error']}{last}" if outcome.status else f"{ref} {answer['state']}"
     ran = Ran(1, "", f"{outcome.answer}\n") if outcome.status else Ran(0, f"{words[0]} {outcome.answer}\n", "")
     return Answered(Step(("lodge", *words)), ran)
+
+
+def grant(lodged: Answered) -> Step:
+    """The step that grants an appeal which is lodged."""
+    number, ref, *_ = lodged.first_line().split()
+    return Step(("decide", number, ref, "granted", ""))

@@ -19,7 +19,6 @@ WITH_REASON = ["decide", "lodge"]  # their last value is a reason, which is priv
 BESIDE_OTHERS = ["lodge"]  # it goes the candidates' way, without the office for itself
 BEGINS, STEP = "begins", "step"
 LAST_BYTES = 1 << 16  # of the log, in which the last change is looked for
-ALL_BYTES = 1 << 40
 
 
 @dataclass
@@ -94,23 +93,11 @@ def broken_off(office: Office) -> Unfinished | None:
     return found if found and not turns.is_taken(office, "want.lock") and unfinished(office) == found else None
 
 
-def closings(office: Office) -> dict[tuple[str, str], str]:
-    """When `close-hall` closed a hall for a session of this office, by session and hall: the last time of each."""
-    found = dict[tuple[str, str], str]()
-    for when, _, command, status, _ in last_lines(office, ALL_BYTES):
-        words = command.split()
-        if status == "0" and words == ["init"]:
-            found.clear()  # of an office that is gone
-        elif status == "0" and words[:1] == ["close-hall"] and len(words) > 2:
-            found[words[-2], words[-1]] = when
-    return found
-
-
-def last_lines(office: Office, most: int = LAST_BYTES) -> Iterator[list[str]]:
-    """The columns of the lines in the last so many bytes of the log; none where it cannot be read."""
+def last_lines(office: Office) -> Iterator[list[str]]:
+    """The columns of the last lines of the log; none where it cannot be read."""
     with contextlib.suppress(OSError, beside.Strange):
         with open(beside.open_file(office.path, NAME, flags=os.O_RDONLY), "rb") as file:
-            file.seek(max(os.fstat(file.fileno()).st_size - most, 0))
+            file.seek(max(os.fstat(file.fileno()).st_size - LAST_BYTES, 0))
             for line in file.read().decode("utf-8", "replace").split("\n"):
                 if len(columns := line.split("\t")) == 5:
                     yield columns

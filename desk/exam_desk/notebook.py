@@ -1,9 +1,7 @@
-"""What the school keeps beside its office: notes on candidates, its name, how desks stand in halls, which desks were
-printed, who was absent.
+"""What the school keeps beside its office: notes, its name, how desks stand, what is printed, who was absent.
 
-Each is a file of JSON in the folder `notebook` beside the office, for the office's user alone. None of it is a fact of
-the office: no seat depends on it. The copies of the office have it too; `office back` leaves what is there as it is,
-and says what of it a copy has otherwise.
+Each is a file of JSON in the folder `notebook`, for the office's user alone. No seat depends on it. The copies of the
+office have it too; `office back` leaves it as it is, and says what of it a copy has otherwise.
 """
 import contextlib
 import datetime
@@ -12,8 +10,8 @@ import json
 import os
 import re
 from collections import Counter
-from collections.abc import Callable, Collection, Iterable, Iterator, Mapping, Sequence
-from typing import NamedTuple, TypeVar
+from collections.abc import Callable, Iterable, Iterator, Mapping, Sequence
+from typing import Any, NamedTuple
 
 from exam_desk import beside, facts, files, logbook, typed, words
 from exam_desk.office import Office, NoOffice, Trouble
@@ -21,9 +19,6 @@ from exam_desk.reading import Member, Reading
 
 PLACE = "notebook"
 SCHOOL, PAGE = "school", "page"
-WORDS = {  # what a file holds, by the beginning of its name; {} is a session
-    SCHOOL: "the name of the school", PAGE: "the address of the candidates' page", "notes": "notes",
-    "rows": "rows of desks", "printed": "printed desks of {}", "absent": "absences of {}"}
 NAME = re.compile(r"([a-z]+)(?:\.(.*))?\.json")
 NEW = ".new"  # the end of the name of a file that is being written
 RUNNING = ["across", "across-and-back", "down", "down-and-up"]  # how the numbers of desks run
@@ -31,7 +26,6 @@ MOST_NOTE_BYTES = 200
 MOST_ACROSS = 100  # desks in a row
 MOST_NAMED, MOST_LOGGED = 5, 20  # numbers in a refusal, and of one kind in a line of the log
 STAFF = re.compile(r"[\s,;(]*\b(staff|intern)\s*[:：].*", re.I | re.S)  # of a note: its part for staff alone
-Held = TypeVar("Held", bound=Collection[object])
 
 
 class Rows(NamedTuple):
@@ -46,95 +40,107 @@ class Rows(NamedTuple):
 class Absences(NamedTuple):
     """Who is noted as absent in a session."""
     members: list[Member]
-    gone: list[str]  # the numbers of those who have left the session: the list for the exam board lacks them
+    gone: list[str]  # have left the session: the list for the exam board lacks them
 
 
-def school_name(office: Office, what: str = SCHOOL) -> str:
-    """The name of the school, or the address of its page; nothing where none was given."""
-    return read(office, what, "", is_text)
-
-
-def set_school_name(office: Office, name: str, what: str = SCHOOL) -> None:
-    """Raises `Trouble` where the name, or the address, has another form than a title."""
-    if name and not files.is_name(name.encode("utf-8", "surrogateescape")):
-        if what == PAGE:
-            raise Trouble(f"{WORDS[PAGE]} has 1 to 80 bytes and no control characters; '' takes it away")
-        raise Trouble("the name of a school has 1 to 80 bytes and no control characters; '' takes it away")
-    with alone(office) as folder:
-        write(office, folder, what, name)
-    logbook.write_done(office, [SCHOOL], 0, name or f"no {'name' if what == SCHOOL else what}")
-
-
-def notes(office: Office) -> dict[str, str]:
-    return read(office, "notes", dict[str, str](), is_text)
-
-
-def take_notes(office: Office, new: Mapping[str, str]) -> Counter[str]:
-    """Keeps notes by number; an empty text takes a note away. How many are added, changed, removed, and the same."""
-    with alone(office) as folder:
-        before = notes(office)
-        write(office, folder, "notes", {number: text for number, text in sorted({**before, **new}.items()) if text})
-    kinds = {number: "same" if text == before.get(number, "") else "added" if number not in before else
-             "changed" if text else "removed" for number, text in new.items()}
-    log_numbers(office, ["notes"], {number: kind for number, kind in kinds.items() if kind != "same"})
-    return Counter(kinds.values())
-
-
-def log_numbers(office: Office, command: Sequence[str], what: Mapping[str, str]) -> None:
-    """A line in the log that says what was done of which numbers, if of any; no text of a note."""
-    numbers = {kind: sorted(number for number in what if what[number] == kind) for kind in sorted({*what.values()})}
-    if numbers:
-        said = (f"{kind} {words.few(found, MOST_LOGGED)}" for kind, found in numbers.items())
-        logbook.write_done(office, command, 0, "; ".join(said))
-
-
-def rows_of_halls(office: Office) -> dict[str, Rows]:
-    """How the desks stand in each hall where somebody has said it."""
-    return {hall: Rows(*rows) for hall, rows in read(office, "rows", dict[str, tuple[int, str]](), is_rows).items()}
-
-
-def keep_rows(office: Office, hall: str, rows: Rows) -> None:
-    """Raises `Trouble` where no desks stand so."""
-    if not can_stand(rows):
-        raise Trouble(f"a row has 1 to {MOST_ACROSS} desks, and their numbers run {', '.join(RUNNING)}")
-    with alone(office) as folder:
-        write(office, folder, "rows", {**rows_of_halls(office), hall: rows})
-    logbook.write_done(office, ["rows", hall], 0, f"rows of {rows.across}, {rows.running}")
+def is_text(part: object) -> bool:
+    """Whether it is a text without halves of letters, which no page can hold."""
+    return isinstance(part, str) and part.encode("utf-8", "ignore").decode() == part
 
 
 def can_stand(rows: Rows) -> bool:
     return 1 <= rows.across <= MOST_ACROSS and rows.running in RUNNING
 
 
+def is_rows(part: object) -> bool:
+    return isinstance(part, list) and [*map(type, part)] == [int, str] and can_stand(Rows(*part))
+
+
+def is_line(part: object) -> bool:
+    return (isinstance(part, list) and [*map(type, part[:2])] == [str, int]
+            and all(map(is_text, [part[0], *part[2:]])))
+
+
+# What a file holds, by the beginning of its name: in words, {} being a session; its type; whether a part is right.
+KINDS: dict[str, tuple[str, type[Any], Callable[[object], bool]]] = {
+    SCHOOL: ("the name of the school", str, is_text), PAGE: ("the address of the candidates' page", str, is_text),
+    "notes": ("notes", dict, is_text), "rows": ("rows of desks", dict, is_rows),
+    "printed": ("printed desks of {}", dict, is_line), "absent": ("absences of {}", list, is_text)}
+
+
+def school_name(office: Office, what: str = SCHOOL) -> str:
+    """The name of the school, or the address of its page; nothing where none was given."""
+    return str(read(office, what) or "")
+
+
+def set_school_name(office: Office, name: str, what: str = SCHOOL) -> None:
+    """Raises `Trouble` where the name, or the address, has another form than a title."""
+    if name and not files.is_name(name.encode("utf-8", "surrogateescape")):
+        raise Trouble("a name or an address has 1 to 80 bytes and no control characters; '' takes it away")
+    keep(office, what, lambda _: name)
+    logbook.write_done(office, [SCHOOL], 0, name or f"no {'name' if what == SCHOOL else what}")
+
+
+def notes(office: Office) -> dict[str, str]:
+    return read(office, "notes") or {}
+
+
+def take_notes(office: Office, new: Mapping[str, str]) -> Counter[str]:
+    """Keeps notes by number; an empty text takes a note away. How many are added, changed, removed, and the same."""
+    before, now = (kept or {} for kept in keep(office, "notes", lambda kept: {
+        number: text for number, text in sorted({**(kept or {}), **new}.items()) if text}))
+    found = {"added": now.keys() - before.keys(), "removed": before.keys() - now.keys(),
+             "changed": {number for number in now.keys() & before.keys() if now[number] != before[number]}}
+    log_numbers(office, ["notes"], found)
+    counts = {kind: len(numbers) for kind, numbers in found.items()}
+    return +Counter({**counts, "same": len(new) - sum(counts.values())})
+
+
+def log_numbers(office: Office, command: Sequence[str], found: Mapping[str, Iterable[str]]) -> None:
+    """A line in the log that says what was done of which numbers, if of any; no text of a note."""
+    said = [f"{kind} {words.few(sorted(found[kind]), MOST_LOGGED)}" for kind in sorted(found) if found[kind]]
+    if said:
+        logbook.write_done(office, command, 0, "; ".join(said))
+
+
+def rows_of_halls(office: Office) -> dict[str, Rows]:
+    """How the desks stand in each hall where somebody has said it."""
+    return {hall: Rows(*rows) for hall, rows in (read(office, "rows") or {}).items()}
+
+
+def keep_rows(office: Office, hall: str, rows: Rows) -> None:
+    """Raises `Trouble` where no desks stand so."""
+    if not can_stand(rows):
+        raise Trouble(f"a row has 1 to {MOST_ACROSS} desks, and their numbers run {', '.join(RUNNING)}")
+    keep(office, "rows", lambda kept: {**(kept or {}), hall: rows})
+    logbook.write_done(office, ["rows", hall], 0, f"rows of {rows.across}, {rows.running}")
+
+
 def absent(office: Office, session: str) -> set[str] | None:
     """The numbers of who was missing in a session; None where nobody noted who was, nor that nobody was."""
-    nothing = list[str]()
-    found = read(office, f"absent.{session}", nothing, is_text)
-    return None if found is nothing else {*found}
+    found = read(office, f"absent.{session}")
+    return None if found is None else {*found}
 
 
 def absences(reading: Reading, session: str) -> Absences | None:
     """None where nobody noted who was absent, nor that nobody was."""
-    noted = absent(reading.office, session)
-    if noted is None:
+    if (noted := absent(reading.office, session)) is None:
         return None
-    known = facts.candidate_names(reading.rows).keys()  # a copy from before somebody came may have been put back
-    members = reading.members(session, sorted(noted & known))
+    members = reading.members(session, facts.entered(reading.rows, session, among=noted))
     return Absences(members, sorted(noted.difference(member.number for member in members)))
 
 
 def keep_absent(office: Office, session: str, missing: Iterable[str], there: Iterable[str],
                 nobody: bool = False) -> set[str]:
-    """Adds some to the absent of a session and takes others away; who is absent then. Where that is nobody it is kept
-    if somebody says so. Raises `Trouble` where somebody is absent, and nobody too."""
-    with alone(office) as folder:
-        before = absent(office, session)
-        found = (before or set()).union(missing).difference(there)
+    """Adds some to the absent of a session and takes others away; who is absent then. `nobody` is kept, too."""
+    def change(kept: list[str] | None) -> list[str] | None:
+        found = sorted({*(kept or ()), *missing}.difference(there))
         if found and nobody:
-            raise Trouble(f"nothing is noted, since these are absent: {words.few(sorted(found), MOST_NAMED)}")
-        write(office, folder, f"absent.{session}", sorted(found) if found or nobody else None)
-    said = {number: "absent" if number in found else "there" for number in found ^ (before or set())}
-    log_numbers(office, ["absent", session], said)
+            raise Trouble(f"nothing is noted, since these are absent: {words.few(found, MOST_NAMED)}")
+        return found if found or nobody else None
+    before, now = keep(office, f"absent.{session}", change)
+    was, found = {*(before or ())}, {*(now or ())}
+    log_numbers(office, ["absent", session], {"absent": found - was, "there": was - found})
     if nobody and before is None:
         logbook.write_done(office, ["absent", session], 0, "nobody")
     return found
@@ -155,26 +161,23 @@ def day_of(reading: Reading, session: str) -> str:
 def note_absent(office: Office, reading: Reading, session: str, missing: Iterable[str], there: Iterable[str] = (),
                 nobody: bool = False) -> set[str]:
     """Notes some as absent and others as there, or that nobody was absent; who is absent then. Raises `Trouble`, and
-    notes nothing, before the day of the session, where nobody is named, where a number is neither that of a member nor
-    noted already, and as `keep_absent`."""
+    notes nothing, before the day of the session, where nobody is named, and where a number is no member's."""
     day_of(reading, session)
     missing, there = [*map(typed.candidate_number, missing)], [*map(typed.candidate_number, there)]
-    noted = absent(office, session) or ()
-    asked = [number for number in (*missing, *there) if number not in noted]
     if not (missing or there or nobody):
         raise Trouble("nothing is noted: no number is given")
     if both := sorted({*missing} & {*there}):
         raise Trouble(f"nothing is noted: {words.few(both, MOST_NAMED)}: absent, or there?")
-    members = reading.members(session, facts.candidate_names(reading.rows).keys() & {*asked})
-    if wrong := sorted({*asked}.difference(member.number for member in members), key=asked.index):
+    asked = {*missing, *there}.difference(absent(office, session) or ())
+    members = reading.members(session, facts.entered(reading.rows, session, among=asked))
+    if wrong := sorted(asked.difference(member.number for member in members)):
         raise Trouble(f"nothing is noted: {words.few(wrong, MOST_NAMED)}: no candidate of {session}")
     return keep_absent(office, session, missing, there, nobody)
 
 
 def attendance(reading: Reading, sessions: Iterable[str]) -> str:
-    """A line for each member of the sessions and each paper that they are entered for, by paper, as CSV. The code is
-    the one which the exam board knows. Who has no desk cannot have been present. Raises `Trouble` before the day of a
-    session."""
+    """A line for each member and each paper that they are entered for, by paper, as CSV with the codes that the exam
+    board knows. Raises `Trouble` before the day of a session."""
     from exam_desk.second_sitting import own_code  # here, since it makes changes, whose copies have this notebook
     rows = [["session", "date", "number", "paper", "attendance"]]
     for session in sessions:
@@ -188,69 +191,54 @@ def attendance(reading: Reading, sessions: Iterable[str]) -> str:
     return files.written(rows)
 
 
-def is_text(part: object) -> bool:
-    """Whether it is a text without halves of letters, which no page can hold."""
-    return isinstance(part, str) and part.encode("utf-8", "ignore").decode() == part
-
-
-def is_rows(part: object) -> bool:
-    return isinstance(part, list) and [*map(type, part)] == [int, str] and can_stand(Rows(*part))
-
-
-def alone(office: Office) -> contextlib.AbstractContextManager[int]:
-    """The open folder for this process alone: what is read in it and written is not another's in between."""
-    if not os.path.isfile(office.path):
-        raise NoOffice(office.path)
-    beside.make_folder(office.path, PLACE)
-    return locked(office, fcntl.LOCK_EX)
-
-
 @contextlib.contextmanager
-def locked(office: Office, how: int) -> Iterator[int]:
-    """The open folder, with its lock. Raises FileNotFoundError where there is none."""
+def alone(office: Office) -> Iterator[None]:
+    """The notebook for this process alone. Raises FileNotFoundError where there is none."""
     with beside.open_folder(office.path, PLACE) as folder:
-        fcntl.flock(folder, how)
-        yield folder
+        fcntl.flock(folder, fcntl.LOCK_EX)
+        yield
 
 
-def read(office: Office, name: str, empty: Held, right: Callable[[object], bool]) -> Held:
-    """What a file holds, else what is empty. Raises `Trouble` where it is of another type, or one of its parts is not
-    right."""
+def read(office: Office, name: str) -> Any:
+    """What a file holds; None where there is none. Raises `Trouble` where it, or a part of it, has another form."""
+    _, kind, is_right = KINDS[name.partition(".")[0]]
     try:
         file = beside.open_file(office.path, PLACE, f"{name}.json", flags=os.O_RDONLY)
     except FileNotFoundError:
-        return empty
+        return None
     with open(file, "rb") as opened, contextlib.suppress(ValueError, RecursionError):
         held = json.loads(opened.read())
-        parts = held.values() if isinstance(held, dict) else held
-        if isinstance(held, type(empty)) and all(map(right, parts)):
+        if isinstance(held, kind) and all(map(is_right, held.values() if isinstance(held, dict) else held)):
             return held
     raise Trouble("is damaged: look, and move it away, or take the file of a copy",
-                  os.path.join(beside.folder(office.path), PLACE, f"{name}.json"))
+                  beside.folder(office.path, PLACE, f"{name}.json"))
 
 
-def write(office: Office, folder: int, name: str, value: object) -> None:
-    """Writes a file whole and onto the disk, or not at all; for None it takes the file away."""
-    final, new = f"{name}.json", f"{name}.json{NEW}"
-    for old in [new] if value is not None else [new, final]:  # `new` of a command that was killed
-        with contextlib.suppress(FileNotFoundError):
-            os.unlink(old, dir_fd=folder)
-    if value is None:
-        return
-    file = beside.open_file(office.path, PLACE, new, flags=os.O_WRONLY | os.O_CREAT | os.O_EXCL)
-    with beside.naming(beside.folder(office.path, PLACE, new)), open(file, "wb") as opened:
-        opened.write(json.dumps(value, indent=0).encode("ascii"))
-        opened.flush()
-        os.fsync(opened.fileno())
-    os.rename(new, final, src_dir_fd=folder, dst_dir_fd=folder)
-    os.fsync(folder)
+def keep(office: Office, name: str, change: Callable[[Any], object]) -> tuple[Any, Any]:
+    """Writes what a change makes of what a file holds, whole and onto the disk; gives both. None is no file. Nobody
+    else writes in between."""
+    if not os.path.isfile(office.path):
+        raise NoOffice(office.path)
+    path = os.path.join(beside.make_folder(office.path, PLACE), f"{name}.json")
+    with alone(office):
+        before = read(office, name)
+        now = change(before)
+        for old in [path + NEW, *([path] if now is None else [])]:  # `NEW` of a command that was killed
+            with contextlib.suppress(FileNotFoundError):
+                os.unlink(old)
+        if now is not None:
+            files.put(path + NEW, json.dumps(now, indent=0).encode("ascii"))
+            beside.sync(path + NEW)
+            os.rename(path + NEW, path)
+            beside.sync(os.path.dirname(path))
+    return before, now
 
 
 def copy_into(office: Office, target: str) -> None:
     """Copies the notebook, if there is one, into a new folder of that name."""
-    with contextlib.suppress(FileNotFoundError), locked(office, fcntl.LOCK_SH):
-        found = contents(office, PLACE)
+    with contextlib.suppress(FileNotFoundError), alone(office):
         place = os.path.join(target, PLACE)
+        found = contents(office, PLACE)
         os.mkdir(place, 0o700)
         for name, text in found.items():
             files.put(os.path.join(place, name), text)
@@ -258,11 +246,10 @@ def copy_into(office: Office, target: str) -> None:
 
 
 def set_aside(office: Office) -> tuple[str, list[str]]:
-    """Gives the notebook of an office that is gone a name that says so: its path, and what it holds, in words. An empty
-    path where there is none. Call it with the office alone."""
+    """Renames the notebook of an office that is gone: its path, and what it holds; '' if none. Call it in a turn."""
     place = beside.folder(office.path, PLACE)
     aside = f"{place}-of-an-office-before-{datetime.datetime.now():%Y-%m-%d-%H.%M.%S}"
-    with contextlib.suppress(FileNotFoundError), locked(office, fcntl.LOCK_EX):
+    with contextlib.suppress(FileNotFoundError), alone(office):
         if held := [words_of(name) for name in sorted(contents(office, PLACE))]:
             os.rename(place, aside)
             beside.sync(os.path.dirname(place))
@@ -278,22 +265,22 @@ def others_than_in(office: Office, copy: str) -> list[str]:
 
 
 def sessions_with(office: Office, word: str) -> list[str]:
-    """The sessions of which the notebook has a file whose name begins with one of WORDS."""
+    """The sessions of which the notebook has a file of a kind."""
     found = map(NAME.fullmatch, sorted(contents(office, PLACE)))
     return [each[2] for each in found if each and each[1] == word and each[2]]
 
 
 def words_of(name: str) -> str:
     found = NAME.fullmatch(name)
-    return WORDS[found[1]].format(found[2]) if found and found[1] in WORDS else name
+    return KINDS[found[1]][0].format(found[2]) if found and found[1] in KINDS else name
 
 
 def contents(office: Office, *place: str) -> dict[str, bytes]:
     """The files of a notebook by name; none where there is none."""
-    names, found = list[str](), {}
+    found = {}
     with contextlib.suppress(FileNotFoundError), beside.open_folder(office.path, *place) as folder:
-        names = [name for name in os.listdir(folder) if not name.endswith(NEW)]
-    for name in names:
-        with open(beside.open_file(office.path, *place, name, flags=os.O_RDONLY), "rb") as file:
-            found[name] = file.read()
+        for name in os.listdir(folder):
+            if not name.endswith(NEW):
+                with open(beside.open_file(office.path, *place, name, flags=os.O_RDONLY), "rb") as file:
+                    found[name] = file.read()
     return found

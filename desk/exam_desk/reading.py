@@ -3,37 +3,27 @@
 A reading has a private copy of the office's files. The rows are those of the copy. Who sits what, until when, in which
 hall and at which desk is not worked out from them: a `serve` over the same copy says it, to whoever shows the access
 code of a candidate, which is among the rows; and sheets are printed from it. `serve` begins with the first question.
-What its answers mean docs/HTTP.md says. One of another form raises `Trouble`: this desk belongs to another version of
-the program.
+What its answers mean docs/HTTP.md says. One with other members raises `Trouble`: this desk belongs to another version
+of the program.
 """
 import contextlib
 import functools
 import json
 import operator
 import os
-import re
 import threading
 import time
 from collections.abc import Callable, Collection, Iterable
 from typing import Any, NamedTuple, TypeVar
 
-from exam_desk import asking, facts, private, running, snapshot, turns
-from exam_desk.asking import Progress, Serve, ask_all
+from exam_desk import facts, private, running, snapshot
+from exam_desk.asking import Progress, Serve
 from exam_desk.office import Office, BadRows, NoCandidate, Trouble
 from exam_desk.words import plain
 
 Found = TypeVar("Found")
 Objects = list[dict[str, Any]]  # of an answer
 REQUEST = "GET /candidates/{}/{} HTTP/1.1\r\nHost: office\r\nexam-code: {}\r\n\r\n"
-CODE, WHOLE = '"[A-Z0-9-]+"', "[0-9]+"
-DATE, CLOCK = '"[0-9]{4}-[0-9]{2}-[0-9]{2}"', '"[0-9]{2}:[0-9]{2}"'
-FORMS = {  # of each answer the members of its objects by name, each with the form of its value in JSON
-    "seats": {"date": DATE, "desk": f"{WHOLE}|null", "extra": WHOLE, "finish": CLOCK, "hall": f"{CODE}|null",
-              "needs": r'"(-|[a-z-]+(\+[a-z-]+)*)"', "paper": CODE, "session": CODE, "start": CLOCK},
-    "clashes": {"paper": CODE, "session": CODE, "sitting": CODE},
-}
-FORMED = {what: re.compile("{%s}" % ", ".join(f'"{name}": ({form})' for name, form in forms.items()))
-          for what, forms in FORMS.items()}
 JUST_NOW = 50_000_000  # nanoseconds in which a second change of a file may leave its time as it is
 
 
@@ -48,6 +38,9 @@ class Sitting(NamedTuple):
     extra: int  # percent
     hall: str | None
     desk: int | None
+
+
+MEMBERS = {"seats": {*Sitting._fields}, "clashes": {"paper", "session", "sitting"}}  # of the objects of an answer
 
 
 class Member(NamedTuple):
@@ -70,15 +63,12 @@ class Person(NamedTuple):
 class Reading(contextlib.AbstractContextManager["Reading"]):
     """A context. Several threads may use it; the first that asks must live as long as it."""
 
-    def __init__(self, office: Office, path: str | None = None, progress: Progress = lambda done, of: None,
-                 kept: asking.Server | None = None) -> None:
-        """Reads the office, or another file of an office. Who is given as `kept` is asked in place of a `serve` over
-        the copy. Raises `Trouble` where the office cannot be read."""
+    def __init__(self, office: Office, path: str | None = None, progress: Progress = lambda done, of: None) -> None:
+        """Reads the office, or another file of an office. Raises `Trouble` where it cannot be read."""
         self.office = office
         self.path = path or office.path
         self.progress = progress
         self.asking, self.printing = threading.Lock(), threading.Lock()
-        self.kept = kept
         self.serve: Serve | None = None
         self.sittings: dict[str, dict[str, Sitting]] = {}  # what the program said, by number and session
         self.missed: dict[str, dict[str, list[str]]] = {}
@@ -156,10 +146,7 @@ class Reading(contextlib.AbstractContextManager["Reading"]):
         with self.asking:
             unknown = [person for person in people if person.number not in known]
             requests = [REQUEST.format(person.number, what, person.code).encode("ascii") for person in unknown]
-            if self.kept:
-                bodies = ask_all(self.kept, requests, [], self.progress)
-            else:
-                bodies = self.begun().bodies(requests, self.progress) if requests else []
+            bodies = self.begun().bodies(requests, self.progress) if requests else []
             known.update((person.number, read(objects(body, what))) for person, body in zip(unknown, bodies))
 
     def begun(self) -> Serve:
@@ -201,20 +188,6 @@ class Reading(contextlib.AbstractContextManager["Reading"]):
                 raise BadRows(self.path, said.removeprefix("bad ").strip())
 
 
-def of_few(office: Office, read: Callable[[Reading], Found]) -> Found:
-    """What is read of a few candidates. `keep` is asked where it serves, which opens no office anew, if this stays as
-    it was copied meanwhile: so the rows and the answers are of one moment."""
-    state = turns.keep_state(office)
-    if state and state.get("state") == "serving":
-        kept = asking.Server(state["pid"], state["place"])
-        with contextlib.suppress(OSError, Trouble), Reading(office, kept=kept) as reading:
-            found = read(reading)
-            if reading.is_current():
-                return found
-    with Reading(office) as reading:
-        return read(reading)
-
-
 def state_of(path: str) -> list[tuple[int, ...]]:
     """What is seen of an office's two files from outside; last when each was changed."""
     found = [os.stat(path)]
@@ -241,9 +214,9 @@ def clashes(answered: Objects) -> dict[str, list[str]]:
 
 
 def objects(body: bytes, what: str) -> Objects:
-    """Those of an answer. Raises `Trouble` where one has other members, or a value of another form."""
+    """Those of an answer. Raises `Trouble` where one has other members."""
     with contextlib.suppress(ValueError, KeyError, TypeError, RecursionError):
         found = json.loads(body)[what]
-        if all(FORMED[what].fullmatch(json.dumps(each, sort_keys=True)) for each in found):
+        if all(each.keys() == MEMBERS[what] for each in found):
             return list(found)
     raise Trouble(f"the program answered something else than {what}: are desk and program of one version?")

@@ -4,7 +4,6 @@ The program prints what is short, and not why a hall does not suit. So its rule 
 compared with the printed shortage: `Reasons.faults`.
 """
 import re
-import textwrap
 from collections import Counter, defaultdict
 from collections.abc import Iterator
 from typing import NamedTuple
@@ -18,7 +17,6 @@ from exam_desk.words import FEATURES, clock, features, few, plain
 
 MOST_NAMED, MOST_HALLS = 3, 5  # occupants of a full hall, halls of a reason
 MOST_LINES = 60  # that go hall by hall; in place of more, equal reasons are put together
-MOST_GROUPS, COLUMNS = 24, 118  # of candidates, each on a line of its own; letters of a line
 CLOSES, TOO_EARLY = "closes ", "closes too early"
 GRANTED_HALLS = f"SELECT number, target FROM appeal WHERE session = ? AND kind = 1 AND state = {snapshot.GRANTED}"
 SHEET = re.compile(  # as much of a text as is a shortage sheet
@@ -121,7 +119,7 @@ class Reasons:
         return "".join(map(self.lines, asked)) or "everybody has a desk\n"
 
     def in_short(self, asked: list[Member]) -> Iterator[str]:
-        """All numbers, by needs, and each reason with its candidates and halls: at most MOST_LINES of 256."""
+        """All numbers, by needs, and each reason with its candidates and halls."""
         groups: dict[str, list[str]] = defaultdict(list)
         who: dict[str, set[str]] = defaultdict(set)
         where: dict[str, set[str]] = defaultdict(set)
@@ -134,9 +132,7 @@ class Reasons:
                     who[reason].add(member.number)
                     where[reason].add(opening.hall)
         yield f"{count(len(asked), 'candidate')} without a desk, by what they and their papers need:"
-        parts = [f"needs {needs}: {' '.join(groups[needs])}" for needs in sorted(groups)]
-        for part in parts if len(parts) <= MOST_GROUPS else ["; ".join(parts)]:
-            yield from textwrap.wrap(part, COLUMNS, subsequent_indent="  ", break_on_hyphens=False)
+        yield from (f"needs {needs}: {' '.join(groups[needs])}" for needs in sorted(groups))
         halls = count(len(self.openings), "open hall")
         yield f"why not in {halls}; a hall may have several reasons:" if self.openings else "no hall is open"
         for reason in sorted(where, key=lambda reason: (-len(who[reason]), reason)):

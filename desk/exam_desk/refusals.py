@@ -1,11 +1,12 @@
-"""What a refusal of the program means, in words; for an import with the line and the value."""
+"""What a refusal of the program means, in words; for an import with the line and the value; for 23 with who has the
+file."""
 import contextlib
 import glob
 import os
 import re
 from collections.abc import Sequence
 
-from exam_desk import files
+from exam_desk import files, turns
 from exam_desk.office import Office, NoOffice, Trouble
 from exam_desk.words import plain
 
@@ -32,7 +33,9 @@ SENTENCES = {
     20: "a limit would be passed, or the file is too long; the handbook lists the limits",
     21: "an earlier appeal of this kind for this session is still open; decide it first",
     22: "the machine is out of memory; try again when it has some",
-    23: "the database cannot be used now",
+    23: "the database cannot be used now: another process has it; or the file, or its folder, may not be written, by "
+        "its permissions or on a full disk; or it has a second name (a hard link, as some backups make: take a copy of "
+        "it), or a -journal lies beside it; or it is a folder, a pipe or no whole database (`office back` lists copies)",
     24: "the file is not there, or holds no office or one with bad rows; `office check` names the bad table, "
         "`office init` makes a new office, `office back` lists copies",
     25: "the hall is not open for this session; check both codes, or import openings",
@@ -47,11 +50,8 @@ OTHER = {
 }
 OF_A_FILE = [1, 2, 3, 4, 5, 6, 7, 20]  # refusals that rows of an import file can bring
 IDLE = ["entries", "arrangements"]  # their rows do nothing where the entry is withdrawn, or a grant is in force
-CAUSES = ("a process of another user has it; its folder is not there, or nothing can be written there; you may not change "
-          "it; it is a folder or a pipe; it has a second name (a hard link, as some backups make: take a copy of it); a "
-          "-journal of sqlite3 lies beside it; or it was cut short or overwritten: `office back` lists copies")
 MOST_LINES = 5  # on one column of an import file
-WITHDRAWN = 9  # the refusal of a second withdrawal
+MOST_SHOWN = 200  # letters of the words of a process
 MAYBE_DONE = (22, 23)  # after these a command is there whole or not at all
 WHOLE_OR_NOT = "a command is there whole or not at all: look, or give it again"
 
@@ -69,12 +69,8 @@ def explained(office: Office, words: Sequence[str], complaint: str, data: bytes 
     number = number_of(answer)
     sentence = SENTENCES.get(number or 0) or OTHER.get(answer)
     lines = [sentence] if sentence else []
-    if number == 23:
-        lines += [holder(office) or CAUSES, WHOLE_OR_NOT]
-    elif number == 22:
-        lines.append(WHOLE_OR_NOT)
-    elif number == WITHDRAWN and words[0] == "withdraw":
-        lines += sat_later(office, *words[-2:])
+    if number in MAYBE_DONE:
+        lines += [*(f"{each} has it" for each in filter(None, [holder(office)]) if number == 23), WHOLE_OR_NOT]
     elif number == 24 and not os.path.exists(office.path):
         lines = [str(NoOffice(office.path))]
     elif answer == "file fault" and words[0] == "import":
@@ -82,15 +78,6 @@ def explained(office: Office, words: Sequence[str], complaint: str, data: bytes 
     elif number in OF_A_FILE or not answer:
         lines += mistakes_of(office, words, data, not answer)
     return [f"  {plain(line)}" for line in lines]
-
-
-def sat_later(office: Office, number: str, paper: str) -> list[str]:
-    """What is said of an entry that is withdrawn, since the candidate has a second sitting of the paper."""
-    from exam_desk import second_sitting, snapshot  # here, since a refusal alone needs them
-    with contextlib.suppress(Trouble), snapshot.rows(office) as rows:
-        return [f"{number} sits it in {row['session']}, as {row['code']}: `office withdraw {number} {row['code']}` "
-                "withdraws that" for row in second_sitting.sat_later(rows, number, paper)]
-    return []
 
 
 def imported(words: Sequence[str]) -> tuple[str, str] | None:
@@ -114,18 +101,18 @@ def mistakes_of(office: Office, words: Sequence[str], data: bytes | None, is_don
 
 
 def holder(office: Office) -> str:
-    """Which process has the file open, with its command; nothing where none is to be seen, as of another user."""
-    for path in glob.iglob("/proc/[0-9]*/fd/*"):
-        process = path.split("/")[2]
+    """A process that has the file open, by its number and its words; "" where none is to be seen."""
+    for path in glob.iglob("/proc/[0-9]*/fd/*"):  # of another user's process there is none
+        process = int(path.split("/")[2])
         with contextlib.suppress(OSError):
-            if int(process) != os.getpid() and os.path.samefile(path, office.path):
+            if process != os.getpid() and os.path.samefile(path, office.path):
                 with open(f"/proc/{process}/cmdline", "rb") as line:
-                    words = line.read().decode("utf-8", "replace").replace("\0", " ").strip()
-                return f"process {process} has it ({words[:100]})"
+                    words = line.read().decode("utf-8", "replace").rstrip("\0").replace("\0", " ")
+                return f"process {process} ({words[:MOST_SHOWN]})"
     return ""
 
 
-def is_busy(office: Office) -> bool:
-    """Whether waiting may help: another process has the file, and it is no `serve`."""
-    found = holder(office)
-    return found != "" and "serve" not in found.split()
+def patience(office: Office) -> int:
+    """For how many seconds waiting may help: another command has the file, and no `serve`; or none is to be seen."""
+    has_it = holder(office)
+    return 0 if re.search(r"\bserve\b", has_it) else turns.PATIENCE if has_it else turns.SILENCE

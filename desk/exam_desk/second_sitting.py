@@ -3,11 +3,11 @@
 A plan is a list of steps for `changing.carry_out`. What the candidate sits, where and until when, the program says:
 before the steps and after a rehearsal of them. The codes of the second session and paper are those of the first with
 `-2`, `-3` and so on; by them and by who is entered the second paper is found again. It stays as it is where the first
-one is moved, becomes another, or has its entry again: nobody thinks of it when that is changed, so it is said.
+one is moved or becomes another: nobody thinks of it then, so it is said.
 """
 import itertools
 import sqlite3
-from collections.abc import Iterable, Iterator
+from collections.abc import Iterable
 from typing import NamedTuple
 
 from exam_desk import files, lists, overlaps, typed
@@ -16,7 +16,7 @@ from exam_desk.reading import Member, Reading, Sitting
 from exam_desk.reasons import Reasons
 from exam_desk.snapshot import Rows
 from exam_desk.office import Trouble
-from exam_desk.words import Said, clock, feature_text, plain
+from exam_desk.words import Said, clock, feature_text
 
 MOST_LETTERS = 12  # of the code of a session or a paper
 PAPERS = ("SELECT paper.code AS code, title, session, minutes, requires, day, start FROM paper "
@@ -27,26 +27,13 @@ OPENED = ("SELECT desks, until, reserved, (SELECT count(*) FROM seat WHERE (sess
           "opening.hall)) FROM opening WHERE session = ? AND hall = ?")
 UNLIKE = ("SELECT max(one.live IS NULL), max(one.live <> 1) FROM entry LEFT JOIN entry AS one "
           "ON one.number = entry.number AND one.paper = ? WHERE entry.paper = ? AND entry.live = 1")
-ARRANGED = "NOTE: the arrangement of {person} is {one} in {first}, and {other} in {session}"
 CLOSED = (0, 24 * 60, False, 0)  # as OPENED says it of a hall that is to be open until the end of the day
-ENTERED = "SELECT printf('%07d', number) FROM entry WHERE paper = ? AND live = 1 ORDER BY number"
-SEATED = "SELECT printf('%07d', number) FROM seat WHERE (session, hall) = (?, ?) ORDER BY number"
-LATER = ("SELECT printf('%07d', number), one.live = 1 FROM entry JOIN entry AS one USING (number) WHERE one.paper = ? "
-         "AND entry.paper = ? AND entry.live = 1 ORDER BY number")
-MOST_LINES, MOST_NAMED = 5, 3
-STAYS = ("NOTE: {paper} in {session}, a second sitting of {first}, stays as it is ({kept}) for {people}: import a row "
-         "for {session} or {paper} too")
-STAYS_OPEN = "NOTE: {hall} stays open in {session}, for the second sitting of {people}"
-SAT_AS = "NOTE: {person} sits {first} as {paper}: `office second-sitting {number} {first} --undo` withdraws {paper}"
-MORE_STAY, MORE = "NOTE: .. and {count} more notes on second sittings", "{names} and {count} more"
+SAT = "SELECT 1 FROM entry WHERE paper = ? AND live = 1"
+STAYS = "NOTE: second sittings stay as they are, though their papers are changed: {papers}; import rows for them too"
+ARRANGED = "NOTE: the arrangement of {person} is {one} in {first}, and {other} in {session}"
 SITS = "{person} sits {first} until {until}, and {paper} from {start} to {finish} in {hall}, desk {desk}"
 AGAIN, LACKS, MISSES = "{person} sits {paper} again", "{what} (has no desk)", "{what}, and misses {papers}"
-KEPT = {  # what a second sitting can keep: the words, and the columns
-    "on {day} at {start}": ["day", "start"], "{minutes} minutes": ["minutes"], "requires {requires}": ["requires"],
-    "the title {title}": ["title"],
-}
-TEXTS = [STAYS, STAYS_OPEN, SAT_AS, ARRANGED, MORE_STAY, MORE, SITS, AGAIN, LACKS, MISSES, *KEPT]
-Pairs = list[tuple[sqlite3.Row, sqlite3.Row]]  # of papers, the second made of the first
+TEXTS = [STAYS, ARRANGED, SITS, AGAIN, LACKS, MISSES]
 
 
 class Plan(NamedTuple):
@@ -209,24 +196,15 @@ def lines(planned: Plan, before: Reading, after: Reading) -> list[str | Said]:
                 if others else f"session {planned.session} and paper {planned.paper} stay, empty"]
     [second] = after.members(planned.session, [number])
     refuse_otherwise(planned, after, first, second)
-    until = lacking(first.finish, first)
-    said = Said(SITS, {**second.sitting._asdict(), "person": person, "first": first.paper, "until": until})
-    return [planned.made, said, *arranged(before, after, number, planned.first, planned.session)]
+    sits = {**second.sitting._asdict(), "person": person, "first": first.paper, "until": lacking(first.finish, first)}
+    shown: list[str | Said] = [planned.made, Said(SITS, sits)]
+    one, other = (lists.allowance(each) or Said("none", {}) for each in (first, second.sitting))
+    return shown if one == other else [*shown, Said(ARRANGED, {
+        "person": person, "one": one, "first": first.session, "other": other, "session": planned.session})]
 
 
 def lacking(what: str | Said, sits: Sitting) -> str | Said:
     return what if sits.hall else Said(LACKS, {"what": what})
-
-
-def arranged(before: Reading, after: Reading, number: str, first: str, session: str) -> list[Said]:
-    """What is said where a candidate sits in two sessions with unlike arrangements, and did not so before."""
-    was, now = ([lists.allowance(sits[code]) for code in (first, session) if code in sits]
-                for sits in (before.all_of(number), after.all_of(number)))
-    if now == was or len({*now}) < 2:
-        return []
-    one, other = (each or Said("none", {}) for each in now)
-    return [Said(ARRANGED, {"person": after.person(number).shown(), "one": one, "first": first, "other": other,
-                            "session": session})]
 
 
 def refuse_otherwise(planned: Plan, after: Reading, first: Sitting, second: Member) -> None:
@@ -248,68 +226,9 @@ def refuse_otherwise(planned: Plan, after: Reading, first: Sitting, second: Memb
 
 
 def left_behind(before: Reading, after: Reading) -> list[Said]:
-    """What is said of each second sitting which stays as it is while its paper does not, or in a hall that is closed
-    before, with those who sit it, beside the first entry, or with another arrangement than in the first session; at
-    most MOST_LINES, and once more of the rest."""
-    now, made = {row["code"]: row for row in after.rows.execute(PAPERS)}, pairs(after.rows)
-    found = [said for first, second in pairs(before.rows) if first["code"] in now and second["code"] in now
-             for said in stays(after, (first, now[first["code"]]), (second, now[second["code"]]))]
-    found += [*in_closed_halls(before, after, made), *entered_again(before, after, made)]
-    rest = len(found) - MOST_LINES
-    return found[:MOST_LINES] + [Said(MORE_STAY, {"count": f"{rest:,}"})] * (rest > 0)
-
-
-def in_closed_halls(before: Reading, after: Reading, made: Pairs) -> Iterator[Said]:
-    """What is said of each hall that a change closes for a session, and that stays open for a second sitting of it."""
-    were, are = ({(row["session"], row["hall"]) for row in each.rows.execute("SELECT * FROM opening")}
-                 for each in (before, after))
-    later = {(first["session"], second["session"]) for first, second in made}
-    for hall, session in sorted((hall, then) for code, hall in were - are for first, then in later if first == code):
-        if (session, hall) in are and (people := named(after, SEATED, session, hall)):
-            yield Said(STAYS_OPEN, {"hall": hall, "session": session, "people": people})
-
-
-def entered_again(before: Reading, after: Reading, made: Pairs) -> Iterator[Said]:
-    """What is said of those who had a second sitting before, and have it yet: of each whose first entry counts again
-    beside it, and of the arrangements of the others, as after a grant for one session."""
-    for first, second in made:
-        then, now = (dict(reading.rows.execute(LATER, [first["code"], second["code"]]).fetchall())
-                     for reading in (before, after))  # whether the first entry counts, by number
-        for number in (each for each in now if then.get(each) == 0):
-            if now[number]:
-                yield Said(SAT_AS, {"person": after.person(number).shown(), "number": number, "first": first["code"],
-                                    "paper": second["code"]})
-            else:
-                yield from arranged(before, after, number, first["session"], second["session"])
-
-
-def named(reading: Reading, query: str, *values: str) -> list[str] | Said:
-    """The candidates whose numbers a query finds, the first by their names."""
-    people = [reading.person(number).shown() for number, in reading.rows.execute(query, values).fetchall()]
-    rest = len(people) - MOST_NAMED
-    return Said(MORE, {"names": people[:MOST_NAMED], "count": f"{rest:,}"}) if rest > 0 else people
-
-
-def stays(after: Reading, first: tuple[sqlite3.Row, sqlite3.Row], second: tuple[sqlite3.Row, sqlite3.Row]
-          ) -> Iterator[Said]:
-    """What is said of a second sitting which keeps what its paper has otherwise, and for which somebody is entered; of
-    both as they were and as they are."""
-    row = second[1]
-    values = {**dict(row), "start": clock(row["start"]), "requires": feature_text(row["requires"]),
-              "title": plain(row["title"])}
-    kept = [Said(text, {name: values[name] for name in columns}) for text, columns in KEPT.items()
-            if differ(*first, columns) and not differ(*second, columns) and is_behind(first[1], row, columns)]
-    if kept and (people := named(after, ENTERED, row["code"])):
-        yield Said(STAYS, {"paper": row["code"], "session": row["session"], "first": first[1]["code"], "kept": kept,
-                           "people": people})
-
-
-def differ(one: sqlite3.Row, other: sqlite3.Row, columns: list[str]) -> bool:
-    return any(one[name] != other[name] for name in columns)
-
-
-def is_behind(first: sqlite3.Row, second: sqlite3.Row, columns: list[str]) -> bool:
-    """Whether a second sitting has something otherwise than its paper; a later start of the same day is right."""
-    if "start" in columns:
-        return bool(first["day"] != second["day"] or second["start"] <= first["start"])
-    return differ(first, second, columns)
+    """What is said where second sittings stay as they are, and their papers or the sessions of these do not."""
+    now = {row["code"]: row for row in after.rows.execute(PAPERS)}
+    stay = [second["code"] for first, second in pairs(before.rows)
+            if now.get(first["code"]) != first and now.get(second["code"]) == second
+            and after.rows.execute(SAT, [second["code"]]).fetchone()]
+    return [Said(STAYS, {"papers": stay})] if stay else []

@@ -20,9 +20,6 @@ HEADER = ["tell", "session", "number", "name", *(f"old {name}" for name in COLUM
           "hall title", "old name", "also"]
 KINDS = {  # in which ways a change meets people, sessions and halls, the gravest first; of one, and of several
     "over": ("session that is over is changed", "sessions that are over are changed"),
-    "past": ("session lies in the past: last year's date?", "sessions lie in the past: last year's dates?"),
-    "opened": ("hall that was closed is open again", "halls that were closed are open again"),
-    "shut": ("hall is closed when its session begins", "halls are closed when their sessions begin"),
     "loses": ("loses the desk", "lose their desks"), "needs": ("loses a need", "lose needs"),
     "lacks": ("joins a session without a desk", "join a session without a desk"),
     "clashes": ("has a new clash", "have new clashes"),
@@ -34,32 +31,31 @@ KINDS = {  # in which ways a change meets people, sessions and halls, the graves
     "gets": ("gets a desk", "get desks"), "leaves": ("leaves a session", "leave a session"),
     "joins": ("joins a session", "join a session"), "misses": ("has other clashes", "have other clashes"),
     "desk": ("has another desk in the same hall", "have other desks in the same hall"),
+    "codes": ("has another access code", "have other access codes"),
 }
 TO_TELL, DESK_ALONE = ("to tell",) * 2, ("with another desk only",) * 2
 
-SESSIONS_OF = ("SELECT DISTINCT session FROM {moment}.paper JOIN {moment}.entry ON entry.paper = paper.code "
-               "WHERE entry.number IN (SELECT number FROM %s)")
-OF_NUMBERS = SESSIONS_OF % "different"
+TO_COME = "session IN (SELECT code FROM {moment}.session WHERE day >= :since)"
+ENTERED = ("SELECT DISTINCT session FROM {moment}.paper JOIN {moment}.entry ON entry.paper = paper.code "
+           f"WHERE {TO_COME} AND entry.number IN ")
+OF_NUMBERS = ENTERED + "(SELECT number FROM different)"
 SESSIONS = {  # by table: which sessions a row that is another can change, as a query over the rows in `different`
-    "session": "SELECT code FROM different UNION "
-               + SESSIONS_OF % "{moment}.appeal WHERE session IN (SELECT code FROM different)",
+    "session": "SELECT code FROM different UNION " + ENTERED
+               + "(SELECT number FROM {moment}.appeal WHERE session IN (SELECT code FROM different))",
     "paper": "SELECT session FROM different",
     "hall": "SELECT session FROM {moment}.opening WHERE hall IN (SELECT code FROM different)",
     "opening": "SELECT session FROM different",
-    "seat": "SELECT session FROM different",
     "entry": "SELECT session FROM {moment}.paper WHERE code IN (SELECT paper FROM different)",
     "candidate": OF_NUMBERS, "arrangement": OF_NUMBERS, "appeal": OF_NUMBERS, "standing": OF_NUMBERS,
+    "seat": f"SELECT session FROM different WHERE {TO_COME}",
 }
 OF_ALL = ["session", "paper"]  # a row of such a table can meet all members of its sessions
-OF_NO_SESSION = ["candidate", "arrangement", "seat"]  # a row holds in all sessions, or another row brought it
 OF_ONE = ["seat", "entry", "candidate", "arrangement", "appeal", "standing"]  # a row belongs to one candidate
 NEIGHBOURS = (  # whoever sits in a hall with one of the numbers, before or after
     "WITH halls AS (SELECT session, hall FROM before.seat WHERE number IN numbers "
     "UNION SELECT session, hall FROM after.seat WHERE number IN numbers) "
     "SELECT session, printf('%07d', number) FROM before.seat JOIN halls USING (session, hall) "
     "UNION SELECT session, printf('%07d', number) FROM after.seat JOIN halls USING (session, hall)")
-RENAMED = ("SELECT printf('%07d', number) FROM before.candidate AS was JOIN after.candidate AS later USING (number) "
-           "WHERE was.name <> later.name")
 MOMENTS = ("before", "after")
 CHANGED = ["sessions", "papers", "halls", "openings", "arrangements"]  # kinds of rows of which other values are said
 Touched = dict[str, set[str] | None]  # by session the numbers; None for all of its members
@@ -140,26 +136,23 @@ def columns(sitting: Sitting | None) -> list[str]:
     return [str(getattr(sitting, name, None) or "") for name in COLUMNS]
 
 
-def touched(before: Reading, after: Reading, with_past: bool = False) -> Touched:
-    """The sessions in order, each with those whom the change can meet there. Of sessions that are over, and that only
-    arrangements change, these are those with another name, unless the past is asked for, too."""
+def touched(before: Reading, after: Reading, since: str | None = None) -> Touched:
+    """The sessions in order, each with those whom the change can meet there. Of sessions before a day, which is today
+    unless another is given, those that a row names: another arrangement or name comes too late for them."""
     people: dict[str, set[str]] = defaultdict(set)
     with contextlib.closing(sqlite3.connect(":memory:")) as both:
         both.execute("PRAGMA temp_store = MEMORY")  # reasons of appeals are in no file of others
         for moment, reading in zip(MOMENTS, (before, after)):
             both.execute(f"ATTACH ? AS {moment}", [reading.copy])
         both.execute("CREATE TEMP TABLE numbers (number PRIMARY KEY)")
-        found = {table: sessions_of(both, table) for table in SESSIONS}
+        day = after.office.today().isoformat() if since is None else since
+        found = {table: sessions_of(both, table, day) for table in SESSIONS}
         numbers = {number for number, in both.execute("SELECT printf('%07d', number) FROM numbers")}
-        renamed = {number for number, in both.execute(RENAMED)}
         for session, number in both.execute(NEIGHBOURS):
             people[session].add(number)
     sessions, whole = set().union(*found.values()), set().union(*(found[table] for table in OF_ALL))
-    named = set().union(*(found[table] for table in SESSIONS if table not in OF_NO_SESSION))
-    past = {code for code, day, _ in facts.sessions(after.rows)
-            if code in found["arrangement"] - named and after.office.is_over(day) and not with_past}
-    return {code: renamed if code in past else None if code in whole else numbers | people[code]
-            for code in all_sessions(before, after) if code in sessions - (past - found["candidate"])}
+    return {code: None if code in whole else numbers | people[code]
+            for code in all_sessions(before, after) if code in sessions}
 
 
 def all_sessions(before: Reading, after: Reading) -> list[str]:
@@ -167,14 +160,14 @@ def all_sessions(before: Reading, after: Reading) -> list[str]:
     return list(dict.fromkeys(head["code"] for reading in (after, before) for head in facts.sessions(reading.rows)))
 
 
-def sessions_of(both: sqlite3.Connection, table: str) -> set[str]:
+def sessions_of(both: sqlite3.Connection, table: str, since: str) -> set[str]:
     """The sessions that rows of a table touch; the numbers in such rows are kept."""
     found: set[str] = set()
     for moment, other in (MOMENTS, MOMENTS[::-1]):
         both.execute("DROP TABLE IF EXISTS temp.different")
         both.execute(f"CREATE TEMP TABLE different AS SELECT * FROM {moment}.{table} EXCEPT "
                      f"SELECT * FROM {other}.{table}")
-        found.update(code for code, in both.execute(SESSIONS[table].format(moment=moment)))
+        found.update(code for code, in both.execute(SESSIONS[table].format(moment=moment), {"since": since}))
         if table in OF_ONE:
             both.execute("INSERT OR IGNORE INTO numbers SELECT number FROM different")
     return found
@@ -187,11 +180,8 @@ def differences(before: Reading, after: Reading, asked: Collection[str] = ()) ->
     for code in asked:
         if code not in sessions:
             raise Trouble(f"there is no session {code}; the office has {few(sessions, 20)}")
-    found = touched(before, after, with_past=True)
-    changes = of_touched(before, after, {code: found[code] for code in found if not asked or code in asked}, True)
-    if not changes:  # a row that meets nobody may be one that no office has: asked of somebody, the program says so
-        after.ask(map(after.person, [*facts.candidate_names(after.rows)][:1]))
-    return changes
+    found = touched(before, after, since="")
+    return of_touched(before, after, {code: found[code] for code in found if not asked or code in asked}, True)
 
 
 def of_touched(before: Reading, after: Reading, sessions: Touched, with_clashes: bool = False) -> list[Change]:
@@ -250,18 +240,16 @@ def by_kind(changes: Iterable[Change]) -> dict[str, list[Change]]:
     return {kind: part for kind, part in found.items() if part}
 
 
-def text(changes: Collection[Change], tells_alone: bool = False) -> str:
-    """A line for each change, the gravest kind first, `!` before those to tell; then how many people there are. Without
-    the desks alone where only those to tell are wanted."""
+def text(changes: Collection[Change]) -> str:
+    """A line for each change, the gravest kind first, `!` before those to tell; then how many people there are."""
     telling = [change.number for change in changes if change.is_to_tell()]
     told = set(telling)
     others = [change.number for change in changes if change.number not in told]
     lines, last = [], f"{counted(TO_TELL, telling)}, {counted(DESK_ALONE, others)}" if changes else "nothing changed"
     for kind, part in by_kind(changes).items():
-        if part[0].is_to_tell() or not tells_alone:
-            mark = "!" if part[0].is_to_tell() else " "
-            lines += [f"{counted(KINDS[kind], [change.number for change in part])}:",
-                      *(f"{mark} {change.session} {change.person()}: {change.what()}" for change in part)]
+        mark = "!" if part[0].is_to_tell() else " "
+        lines += [f"{counted(KINDS[kind], [change.number for change in part])}:",
+                  *(f"{mark} {change.session} {change.person()}: {change.what()}" for change in part)]
     return "".join(f"{line}\n" for line in [*lines, last])
 
 

@@ -1,28 +1,25 @@
-"""The file of titles for the candidates' page: those of papers and halls, and the days of sessions. Once it is written,
-each change of these writes it again; whoever removes it ends that."""
+"""The file of titles for the candidates' page, which each change of sessions, papers or halls writes again."""
 import contextlib
 import json
 import os
 import tempfile
+from typing import Any
 
 from exam_desk import beside, facts, files, snapshot
 from exam_desk.office import Office, Trouble
 from exam_desk.snapshot import Rows
 from exam_desk.words import clock
 
-SESSIONS, PAPERS, HALLS = KINDS = ("sessions", "papers", "halls")  # in the file; of its rows
+KINDS = ("sessions", "papers", "halls")  # in the file; of its rows
 PLACE = "titles"  # beside the office: the path of the file
 
 
 def text(rows: Rows) -> str:
     """Nothing of any candidate: in ASCII, by code, a line for each row."""
-    found = {
-        SESSIONS: {head["code"]: {"date": head["day"], "start": clock(head["start"])}
-                   for head in sorted(facts.sessions(rows), key=lambda head: str(head["code"]))},
-        PAPERS: dict(sorted(facts.paper_titles(rows).items())),
-        HALLS: dict(sorted(facts.hall_titles(rows).items())),
-    }
-    return json.dumps(found, indent=0) + "\n"
+    found: list[dict[str, Any]] = [
+        {head["code"]: {"date": head["day"], "start": clock(head["start"])} for head in facts.sessions(rows)},
+        facts.paper_titles(rows), facts.hall_titles(rows)]
+    return json.dumps({kind: dict(sorted(each.items())) for kind, each in zip(KINDS, found)}, indent=0) + "\n"
 
 
 def is_one(path: str) -> bool:
@@ -34,8 +31,7 @@ def is_one(path: str) -> bool:
 
 
 def put(path: str, content: str) -> None:
-    """Writes the file whole, or leaves the one that is there. `Trouble` where that is none of titles, since a slip
-    would cost an office."""
+    """Writes the file whole, or leaves the one that is there. Raises `Trouble` where that is none of titles."""
     if os.path.lexists(path) and not is_one(path):
         raise Trouble("is there and is no file of titles: name another one, or remove it first", path)
     if not os.path.isdir(place := os.path.dirname(os.path.abspath(path))):

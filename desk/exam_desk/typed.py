@@ -45,11 +45,8 @@ def wrong(names: Sequence[str], words: Sequence[str]) -> list[str]:
 
 
 def wrong_of_lodging(words: Sequence[str]) -> list[str]:
-    """As `wrong`, of NUMBER SESSION KIND VALUE .. REASON; of the first three alone where there is no such kind, and of
-    the first where the second is a kind."""
+    """As `wrong`, of NUMBER SESSION KIND VALUE .. REASON; of the first three alone where there is no such kind."""
     first, kind = ["number", "session", KIND], "".join(words[2:3])
-    if not APPEALS.keys().isdisjoint(words[1:2]):
-        return [*wrong(first[:1], words[:1]), "session is missing"]
     return wrong([*first, *APPEALS[kind], REASON], words) if kind in APPEALS else wrong(first, words[:3])
 
 

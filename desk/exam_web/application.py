@@ -1,8 +1,15 @@
-"""The application: its screens, what all pages have, and faults in words."""
+"""The application: its screens, what all pages have, and faults in words. One desk an office serves it: at a port, with
+a lock and links, which end with it."""
+import contextlib
+import logging
 import os
+import secrets
+import socket
 import sqlite3
+from collections.abc import Callable, Sequence
 from typing import Any
 
+import waitress
 from flask import Flask, g, redirect, render_template, request, url_for
 from flask.typing import ResponseReturnValue
 from markupsafe import escape
@@ -10,23 +17,20 @@ from werkzeug.exceptions import HTTPException
 from werkzeug.routing import IntegerConverter
 from werkzeug.wrappers import Response
 
-from exam_desk import appeals, beside, on_paper
+from exam_desk import appeals, beside, notebook, on_paper, turns
 from exam_desk.telling import people_and_sittings
-from exam_desk.office import Trouble
+from exam_desk.office import Office, Trouble
 from exam_desk.words import FEATURES
-from exam_web import candidates, forms, guard, office, proposals, season, session, uploads, wording
-from exam_web.desk import Desk, StillReading, desk
+from exam_web import candidates, guard, office, proposals, season, session, uploads, wording
+from exam_web.desk import Asked, Desk, Wrong, desk, wrong_page
 from exam_web.wording import text
 
+HOST = "127.0.0.1"  # no option names another
+LOCK = "desk.lock"  # of the desk that runs; it says where
+THREADS = 6
+SILENCE = 120  # seconds after which a connection without a request is closed
 SCREENS = [guard.pages, season.pages, session.pages, candidates.pages, candidates.appeal_pages, candidates.clash_pages,
            uploads.pages, proposals.pages, office.pages]
-PROBLEMS = {
-    400: "The browser sent what no form of the desk sends. Nothing was done.",
-    403: "The request did not come from a page of this desk. Nothing was done.",
-    404: "There is no such page, or what it was about is no longer there.",
-    405: "This address takes no such request. Nothing was done.",
-    413: "The upload is larger than 32 MB. Nothing was taken.",
-}
 FIRST = {*guard.OPEN, "entering.leave", "season.page", "season.init", "files.template", "office.page", "office.bring",
          "office.copy", "office.back", "office.handbook"}  # what can be asked where there is no office
 
@@ -44,7 +48,7 @@ def make(here: Desk) -> Flask:
     app.url_map.converters["int"] = Number
     wording.prepare(app)
     app.jinja_env.globals.update(
-        FEATURES=FEATURES, RUNNING=session.RUNNING, SHEETS=session.SHEETS,
+        FEATURES=FEATURES, RUNNING=notebook.RUNNING, SHEETS=on_paper.ALL.split(),
         has_handbook=office.HANDBOOK is not None, appeals=appeals, copy_key=proposals.copy_key,
         last_day=appeals.to_decide, tally=people_and_sittings, by_halls=on_paper.by_halls)
     for screen in SCREENS:
@@ -52,8 +56,7 @@ def make(here: Desk) -> Flask:
     app.before_request(begin)
     app.context_processor(everywhere)
     app.teardown_request(let_go)
-    app.register_error_handler(forms.Wrong, forms.wrong_page)
-    app.register_error_handler(StillReading, still_reading)
+    app.register_error_handler(Wrong, wrong_page)
     for kind in (HTTPException, Trouble, OSError, sqlite3.Error):
         app.register_error_handler(kind, problem)
     return app
@@ -73,22 +76,15 @@ def let_go(_: BaseException | None) -> None:
 def everywhere() -> dict[str, Any]:
     """What every page has besides its own."""
     here, visit = desk(), g.get("visit") or guard.Visit("", mark="")  # a stranger's, where there is none
-    is_next = "piece" not in request.args and not g.get("is_reading")  # the page that says what was done
-    said, visit.said = (visit.said, []) if is_next else ([], visit.said)
+    said, visit.said = ([], visit.said) if "piece" in request.args else (visit.said, [])
     if (left := visit.proposals.get(request.args.get("again", ""))) and not left.is_done:
         said.append(("", text("Nothing was done. The form is as you left it.")))
-    asked = g.get("asked") or (left.asked if left else forms.Asked())
+    asked = g.get("asked") or (left.asked if left else Asked())
     return {"mark": visit.mark, "initials": visit.initials, "said": said,
             "today": here.office.today().isoformat(), "pretended": here.pretended,
             "office_file": os.path.realpath(here.office.path), "state": g.view.name if "view" in g else "",
             "layout": "piece.html" if "piece" in request.args else "base.html",
-            "wrong": asked.wrong, "given": asked.given, "asked_form": asked.form,
-            "direction": "rtl" if wording.language() in wording.RIGHT_TO_LEFT else "ltr"}
-
-
-def still_reading(stage: StillReading) -> ResponseReturnValue:
-    g.is_reading = True
-    return render_template("reading.html", stage=text(str(stage))), 503, {"Retry-After": "1"}
+            "wrong": asked.wrong, "given": asked.given, "asked_form": asked.form}
 
 
 def problem(fault: Exception) -> ResponseReturnValue:
@@ -97,8 +93,7 @@ def problem(fault: Exception) -> ResponseReturnValue:
     if isinstance(fault, HTTPException):
         if fault.code == 401:
             return (guard.page("visit"), 401) if request.method == "POST" else redirect(url_for("entering.page"))
-        status = fault.code or 500
-        said = text(PROBLEMS[fault.code]) if fault.code in PROBLEMS else escape(fault.description)
+        said, status = escape(fault.description), fault.code or 500
     elif isinstance(fault, OSError) and fault.errno in beside.FULL:
         said = text("The disk is full: make room, for example in the folder {place}, and try again.",
                     place=beside.folder(desk().office.path, beside.DAYS))
@@ -107,3 +102,50 @@ def problem(fault: Exception) -> ResponseReturnValue:
     if not g.get("visit"):  # a stranger sees no page
         return str(said), status
     return render_template("problem.html", status=status, text=said), status
+
+
+def listener(ports: Sequence[int]) -> socket.socket:
+    """A socket at the first port that is free. It listens before a link is printed, since a browser may be quick."""
+    for port in ports:
+        try:
+            return socket.create_server((HOST, port), backlog=64)
+        except OSError as fault:
+            why = os.strerror(fault.errno or 0)
+    raise Trouble(f"port {ports[0]} of {HOST} cannot be had: {why}; name another with --port")
+
+
+def another_link(office: Office) -> str:
+    """A new link to the desk that runs. Raises `Trouble` where none does."""
+    with turns.lock_file(office, LOCK) as lock:
+        if turns.try_lock(lock):
+            raise Trouble("no desk of this office runs: `office desk` opens one")
+    return link_of_running(office)
+
+
+def link_of_running(office: Office) -> str:
+    place = turns.text_of(office, LOCK).split()
+    if len(place) != 2:
+        raise Trouble("a desk of this office begins or ends just now; try again")
+    return guard.new_link(office.path, *place)
+
+
+def serve(office: Office, ports: Sequence[int], pretended: bool, ready: Callable[[str], None]) -> None:
+    """Serves until a signal ends it; `ready` is given the first link, or one to the office's desk that runs already."""
+    with turns.lock_file(office, LOCK) as lock, contextlib.ExitStack() as stack:
+        if not turns.try_lock(lock):
+            ready(link_of_running(office))
+            return
+        listening = stack.enter_context(listener(ports))
+        address, prefix = f"{HOST}:{listening.getsockname()[1]}", f"/{secrets.token_urlsafe(12)}"
+        here = Desk(office, address, prefix, pretended)
+        stack.callback(setattr, here, "held", None)  # behind the two below
+        stack.callback(guard.drop_links, office.path)
+        stack.callback(lock.truncate, 0)
+        door = make(here).extensions["guard"].door
+        turns.note(lock, f"{address} {prefix}")
+        guard.drop_links(office.path)
+        logging.getLogger("waitress.queue").setLevel(logging.ERROR)  # that a request waits is nothing to say
+        ready(guard.new_link(office.path, address, prefix))
+        serve: Callable[..., None] = waitress.serve  # untyped where python3-typeshed is missing
+        serve(door, sockets=[listening], threads=THREADS, ident="desk",
+              max_request_body_size=guard.MOST_UPLOAD + (1 << 20), channel_timeout=SILENCE, _quiet=True)

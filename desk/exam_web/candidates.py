@@ -1,5 +1,5 @@
 """Candidates: the search, their notes, and the page of one. Appeals: the open ones by their last day, and one with what
-its grant would come to. Two papers at once, a second sitting for who has them; and two sessions at one time."""
+its grant would come to. Two papers at a second sitting for who has them; and two sessions at one time."""
 import sqlite3
 from collections.abc import Callable
 from functools import partial
@@ -8,17 +8,17 @@ from flask import Blueprint, abort, redirect, render_template, request, url_for
 from werkzeug.datastructures import MultiDict
 from werkzeug.wrappers import Response
 
-from exam_desk import coding, effects, facts, files, lists, notebook, on_paper, overlaps, second_sitting, typed
+from exam_desk import coding, effects, facts, files, lists, notebook, overlaps, second_sitting, typed
 from exam_desk.changing import Step
 from exam_desk.reading import Person
 from exam_desk.sheets import slips as slip_pages
 from exam_desk.sheets import texts
 from exam_web import proposals
-from exam_web.desk import View, candidate_row, desk, office, once, sums, view
-from exam_web.forms import Form, Page, Wrong, at_field, checked, lead, short, styled, tell_papers
-from exam_web.proposals import APPEALS, BY_DAY, PLANS, TROUBLE, Plan, command, features, import_step
+from exam_web.desk import (Form, Page, Wrong, at_field, candidate_row, checked, desk, lead, office,
+                           styled, sums, tell_papers, view)
+from exam_web.proposals import APPEALS, BY_DAY, PLANS, TROUBLE, Plan, command, import_step
 from exam_web.session import Session
-from exam_web.wording import link, said, text
+from exam_web.wording import link, text
 
 pages = Blueprint("candidates", __name__)
 appeal_pages = Blueprint("appeals", __name__)
@@ -30,22 +30,17 @@ Values = dict[str, str]
 
 @pages.get("/candidates")
 def find() -> str | Response:
-    """The search; where it finds one candidate alone it leads to that one's page."""
+    """Whose number ends so, or whose name has all these words; one candidate alone is shown at once."""
     asked = request.args.get("q", "").strip()[:MOST_ASKED]
-    found = search(asked) if asked else []
+    found = texts.find(view().reading.rows, asked)
+    if asked.isascii() and asked.isdigit():
+        rows = view().rows(f"{texts.CANDIDATES} WHERE printf('%07d', number) LIKE ?", [f"%{asked}"])
+        found = lists.by_name(Person(*row) for row in rows)
     if len(found) == 1:
         return redirect(url_for("candidates.page", number=int(found[0].number)))
     return render_template("candidates.html", asked=asked, found=found[:MOST_FOUND], total=len(found),
                            sessions=sums(view()), papers=papers_without(),
                            everybody=view().count("SELECT count(*) FROM candidate"))
-
-
-def search(asked: str) -> list[Person]:
-    """Whose number ends so, or whose name has all these words: accents and capitals do not matter; by name."""
-    if not (asked.isascii() and asked.isdigit()):
-        return texts.find(view().reading.rows, asked)
-    rows = view().rows(f"{texts.CANDIDATES} WHERE printf('%07d', number) LIKE ?", [f"%{asked}"])
-    return lists.by_name(Person(*row) for row in rows)
 
 
 def papers_without(number: int = -1) -> list[sqlite3.Row]:
@@ -69,7 +64,6 @@ def page(number: int, code: str = "") -> str:
                            noted=partial(notebook.absent, desk().office), lodged=view().rows(texts.LODGED, [number]),
                            others=papers_without(number), code=code, hall_titles=facts.hall_titles(reading.rows),
                            second=later, note=notebook.notes(desk().office).get(seven, ""),
-                           granted=proposals.granted(reading, seven),
                            arrangement=view().row("SELECT needs, extra FROM arrangement WHERE number = ?", [number]))
 
 
@@ -84,14 +78,15 @@ def note(number: int) -> Response:
     """Keeps the note on a candidate, or takes it away; no seat depends on it."""
     candidate_row(number)
     page_of: Page = ("candidates.page", {"number": number})
-    given, known = short(page_of, "note", "note"), notebook.notes(desk().office).get(f"{number:07}", "")
+    given = checked(page_of, request.form, note=typed.REASON)["note"]
+    known = notebook.notes(desk().office).get(f"{number:07}", "")
     if request.form.get("was", known) != known:
         wrong = text("somebody has changed it meanwhile; it says: {note}", note=known or "–")
-        raise Wrong(page_of, "note", note=wrong)
+        raise Wrong(page_of, note=wrong)
     notebook.take_notes(office(), {f"{number:07}": given})
     told = text("The note is kept.") if given else text("There is no note on this candidate.")
-    tell_papers(on_paper.otherwise(office(), {f"{number:07}": given}, {}))
-    return lead("candidates.page", told, number=number, _anchor="note")
+    tell_papers()
+    return lead("candidates.page", told, number=number)
 
 
 @pages.get("/candidates/notes")
@@ -107,12 +102,11 @@ def slips(number: int | None = None) -> str:
     only = [] if number is None else [f"{candidate_row(number)['number']:07}"]
     brought, groups = request.files.get("groups"), dict[str, str]()
     if brought:
-        with at_field(("candidates.find", {}), "slips", "groups"):
+        with at_field(("candidates.find", {}), "groups"):
             groups = files.texts_by_number(brought.stream.read(), brought.filename or "", *slip_pages.GROUP)
     of_one = [Session(session).code for session in [request.form.get("session", "")] if session]
     choice = slip_pages.Choice(of_one, only, "codes" in request.form, bool(only or of_one), groups)
-    return styled(slip_pages.page(view().reading, choice),
-                  map(said, slip_pages.beside_groups(view().reading, groups)))
+    return styled(slip_pages.page(view().reading, choice))
 
 
 @appeal_pages.get("/appeals", endpoint="page")
@@ -144,12 +138,12 @@ def if_granted(number: int, ref: str) -> str:
     plan = decide(MultiDict({"number": f"{number:07}", "ref": ref, "outcome": "granted"}))
     with desk().rehearsing:
         proposals.rehearse(plan, desk(), desk().office)
-    return render_template("if_granted.html", row=row, e=plan.effects, refusal=plan.words(), most=MOST_MOVES)
+    return render_template("if_granted.html", row=row, e=plan.effects, refusal=plan.against, most=MOST_MOVES)
 
 
 @clash_pages.get("/clashes", endpoint="page")
 def clashes() -> str:
-    """The sessions with two papers at once, and those who have them in one of these."""
+    """The sessions with two papers at and those who have them in one of these."""
     sessions = {each.code: each for each in sums(view()).values() if each.clashes}
     shown = sessions.get(request.args.get("session", "")) or next(iter(sessions.values()), None)
     found = Session(shown.code).clashes(MOST_SHOWN) if shown else []
@@ -159,17 +153,9 @@ def clashes() -> str:
                            asked={row["number"]: row for row in lodged}, titles=facts.paper_titles(view().reading.rows))
 
 
-@once
-def at_one_time(found: View) -> list[overlaps.Overlap]:
-    """The sessions that overlap. All whom the rows leave in doubt are asked of."""
-    doubtful = overlaps.in_doubt(found.reading)
-    found.ask(overlaps.numbers_of(doubtful))
-    return overlaps.certain(found.reading, doubtful)
-
-
 @clash_pages.get("/overlaps")
 def overlapping() -> str:
-    found = effects.with_people(view().reading, at_one_time(view()))
+    found = effects.with_people(view().reading, overlaps.found(view().reading))
     return render_template("overlaps.html", overlaps=found, most=MOST_SHOWN)
 
 
@@ -189,27 +175,22 @@ def candidate(form: Form, **columns: str) -> tuple[Values, Page]:
     number = form.get("number", "")
     row = view().row("SELECT number, name FROM candidate WHERE printf('%07d', number) = ?", [number]) or abort(404)
     page = ("candidates.page", {"number": row["number"]})
-    return {**checked(page, form, **columns), "number": number, "name": row["name"], "needs": features(form)}, page
+    return {"number": number, "name": row["name"], **checked(page, form, needs="needs", **columns)}, page
 
 
-def of_one(field: str, step: Callable[[Values], Step], form: Form) -> Plan:
-    """A plan with a step for each value of a field of a candidate, beside which refusals stand."""
+def of_one(field: str, step: Callable[[Values], Step], form: Form, is_of_now: bool = False) -> Plan:
+    """A plan with a step for each value of a field of a candidate, beside which refusals stand; the steps suit any
+    state of the office, or that of now alone."""
     values, page = candidate(form)
     asked = [checked(page, MultiDict({field: value}), **{field: field})[field] for value in form.getlist(field) or [""]]
     steps = [step({**values, field: value}) for value in asked]
-    return Plan({**values, field: ", ".join(asked)}, steps, page, field)
+    return Plan({**values, field: ", ".join(asked)}, steps, page, field, made_for=view().name if is_of_now else "")
 
 
-def rename(form: Form) -> Plan:
-    values, page = candidate(form)
-    values["other"] = checked(page, form, name="name")["name"]
-    make = partial(coding.renamed, desk().office, values["number"], values["other"])
-    return Plan(values, [], page, "name", make=make)
-
-
-def with_code(values: Values) -> Step:
-    """The import of a candidate with an access code that nobody has."""
-    code = coding.new_code(set(facts.access_codes(view().reading.rows).values()))
+def with_code(is_new: bool, values: Values) -> Step:
+    """The import of a candidate with the access code that there is, or with one that nobody has."""
+    codes = facts.access_codes(view().reading.rows)
+    code = coding.new_code({*codes.values()}) if is_new else codes[values["number"]]
     return import_step("candidates", {**values, "code": code})
 
 
@@ -223,35 +204,29 @@ def new_candidate(form: Form) -> Plan:
                                            name=link(url_for(page[0], **page[1]), there["name"])))
     values["papers"] = ", ".join(papers := form.getlist("paper"))
     entries = second_sitting.imported("entries", *([values["number"], paper] for paper in papers))
-    return Plan(values, [with_code(values), *([entries] if papers else [])], page, "paper", form_page=form_page,
+    return Plan(values, [with_code(True, values), *([entries] if papers else [])], page, "paper", form_page=form_page,
                 made_for=view().name)
 
 
 def lodge(form: Form) -> Plan:
     """An appeal for a candidate who is there, lodged over HTTP as candidates do: so its reason is no argument."""
-    values, page = candidate(form, session="session")
-    kind = form.get("kind", "")
-    if kind not in typed.APPEALS:
-        raise Wrong(page, kind=text("choose one"))
+    values, page = candidate(form, session="session", kind=typed.KIND, reason=typed.REASON)
+    kind = values["kind"]
     field = "wanted_extra" if kind == "arrangement" else f"wanted_{kind}"
     wanted = [values["needs"]] if kind == "arrangement" else []
     wanted.append(checked(page, form, **{field: typed.APPEALS[kind][-1]})[field])
-    lodged = (values["number"], values["session"], kind, *wanted, short(page, "reason"))
-    return Plan({**values, "kind": kind, "wanted": wanted[-1]}, [], page, field,
+    lodged = (values["number"], values["session"], kind, *wanted, values["reason"])
+    return Plan({**values, "wanted": wanted[-1]}, [], page, field,
                 dict.fromkeys((4, 12, 13, 20, 21), "session"), lodge=lodged)
 
 
 def decide(form: Form) -> Plan:
     """A decision on an appeal, with its answer; which one it is must be chosen."""
     values, _ = candidate(form)
-    values |= {"ref": form.get("ref", ""), "outcome": form.get("outcome", "")}
-    found = appeal_row(int(values["number"]), values["ref"])
+    found = appeal_row(int(values["number"]), form.get("ref", ""))
     page: Page = ("appeals.one", {"number": found["number"], "ref": found["ref"]})
-    if not typed.is_right("outcome", values["outcome"]):
-        raise Wrong(page, outcome=text("choose one"))
-    values["answer"] = short(page, "reason")
-    step = command("decide", ["number", "ref", "outcome", "answer"], values)
-    return Plan(values, [step], page, "outcome")
+    values |= {"ref": found["ref"], **checked(page, form, outcome="outcome", reason=typed.REASON)}
+    return Plan(values, [command("decide", ["number", "ref", "outcome", "reason"], values)], page, "outcome")
 
 
 def of_second(make: Callable[..., second_sitting.Plan], names: list[str], beside: str, form: Form) -> Plan:
@@ -261,7 +236,7 @@ def of_second(make: Callable[..., second_sitting.Plan], names: list[str], beside
     if "session" in form:  # it stands on the page of the two papers
         page = "clashes.second", {"code": Session(form["session"]).code, "number": int(values["number"])}
     values |= checked(page, form, **{name: name for name in names})
-    with at_field(page, "", beside):
+    with at_field(page, beside):
         found = make(view().reading, values["number"], *map(values.get, names))
     return Plan(values, found.steps, page, beside, {TROUBLE: beside}, command=found.title, made_for=view().name,
                 look=partial(second_sitting.lines, found))
@@ -269,8 +244,10 @@ def of_second(make: Callable[..., second_sitting.Plan], names: list[str], beside
 
 PLANS.update({
     **{do: partial(of_one, "paper", partial(command, do, ["number", "paper"])) for do in ("withdraw", "reinstate")},
-    "enter": partial(of_one, "paper", partial(import_step, "entries")), "code": partial(of_one, "number", with_code),
-    "arrangement": partial(of_one, "extra", partial(import_step, "arrangements")), "candidate": new_candidate,
-    "name": rename, "lodge": lodge, "decide": decide,
+    "enter": partial(of_one, "paper", partial(import_step, "entries")),
+    "arrangement": partial(of_one, "extra", partial(import_step, "arrangements")),
+    "code": partial(of_one, "number", partial(with_code, True), is_of_now=True),
+    "name": partial(of_one, "name", partial(with_code, False), is_of_now=True),
+    "candidate": new_candidate, "lodge": lodge, "decide": decide,
     "second": partial(of_second, second_sitting.plan, ["paper", "start", "hall"], "start"),
     "second-back": partial(of_second, second_sitting.plan_back, ["paper"], "paper")})

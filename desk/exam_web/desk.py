@@ -1,36 +1,39 @@
-"""What the pages of one desk share: the office that they show, read once for each of its states, and what is counted of
-its sessions by rows: members, seats, desks, two papers at once, open appeals."""
+"""What the pages of one desk share. They show an office that is read once for each of its states, with what is counted
+of its sessions by rows. A request leads to a page, or the page of its form says what is wrong at its fields; or it is
+given a sheet to print, or a file."""
+import base64
 import contextlib
 import dataclasses
-import math
+import hashlib
 import os
+import secrets
 import sqlite3
 import threading
-import time
 import weakref
 from collections import Counter
-from collections.abc import Callable, Iterable, Sequence
-from concurrent.futures import Future, ThreadPoolExecutor
+from collections.abc import Callable, Iterator, Mapping, Sequence
+from dataclasses import dataclass, field
 from typing import Any, Concatenate, NamedTuple, ParamSpec, TypeVar
 
-from flask import abort, current_app, g, has_request_context, request
+from flask import abort, current_app, g, redirect, request, url_for
+from flask.typing import ResponseReturnValue
+from markupsafe import Markup
+from werkzeug.datastructures import MultiDict
+from werkzeug.utils import secure_filename
+from werkzeug.wrappers import Response
 
-from exam_desk import effects, facts
+from exam_desk import effects, facts, files, mistakes, on_paper, private, typed, words
 from exam_desk.office import Office, Trouble
 from exam_desk.reading import Reading
+from exam_web.wording import said, text
 
-PATIENCE, LONG = 4, 3600  # seconds that a page, and a form, waits for the office to be read
-MANY, TURN = 200, 0.005  # candidates who are asked of at once, and the seconds that others have their turn then
-COPYING, COUNTING = "Its files are copied and read", "Candidates and desks are counted"
 ENTERED = "SELECT session, printf('%07d', number) FROM entry JOIN paper ON code = paper WHERE live = 1"
 AT_ONCE = f"{ENTERED} GROUP BY session, number HAVING count(*) > 1"  # who has two live entries in a session
 UNSEATED = f"{ENTERED} EXCEPT SELECT session, printf('%07d', number) FROM seat"  # who has one, and no seat there
 Found = TypeVar("Found")
-Asked = ParamSpec("Asked")
-
-
-class StillReading(Exception):
-    """The office is being read: how far that is, in words."""
+Given = ParamSpec("Given")
+Form = MultiDict[str, str]
+Page = tuple[str, dict[str, Any]]  # an endpoint and its values
 
 
 class View:
@@ -38,7 +41,6 @@ class View:
     it out of what refers to itself."""
 
     def __init__(self, office: Office, path: str | None = None) -> None:
-        self.began = time.monotonic()
         self.locks: dict[Any, threading.RLock] = {}  # of what is worked out
         self.found: dict[Any, Any] = {}
         self.reading = Reading(office, path)
@@ -54,35 +56,16 @@ class View:
     def count(self, query: str, values: Sequence[object] = ()) -> int:
         return int(self.rows(query, values)[0][0])
 
-    def ask(self, numbers: Iterable[str]) -> None:
-        """Asks the program of many; after some of them other pages have their turn."""
-        people = [*map(self.reading.person, numbers)]
-        for place in range(0, len(people), MANY):
-            self.reading.ask(people[place:place + MANY])
-            time.sleep(TURN)
 
-
-def patience() -> float:
-    """Seconds that this request waits for the office. What a form sends waits on: a page that looks again loses it."""
-    return PATIENCE if has_request_context() and request.method != "POST" else LONG
-
-
-def once(make: Callable[Concatenate[View, Asked], Found]) -> Callable[Concatenate[View, Asked], Found]:
-    """What is worked out of a view is worked out once. Who waits for another request that does it waits as `patience`
-    says, and raises `StillReading` then."""
-    def found(view: View, /, *asked: Asked.args, **more: Asked.kwargs) -> Found:
-        """One lock for each value, so that who asks for another does not wait."""
+def once(make: Callable[Concatenate[View, Given], Found]) -> Callable[Concatenate[View, Given], Found]:
+    """What is worked out of a view is worked out once; who asks for another thing does not wait."""
+    def found(view: View, /, *asked: Given.args, **more: Given.kwargs) -> Found:
         key = (make, asked, *more.items())
-        lock = view.locks.setdefault(key, threading.RLock())  # one step, so each thread gets the same
-        if not lock.acquire(timeout=patience()):
-            raise StillReading(COUNTING)
-        try:
+        with view.locks.setdefault(key, threading.RLock()):  # one step, so each thread gets the same
             if key not in view.found:
                 view.found[key] = make(view, *asked, **more)
             result: Found = view.found[key]
             return result
-        finally:
-            lock.release()
     return found
 
 
@@ -122,58 +105,35 @@ def sittings(view: View, query: str) -> set[tuple[str, str]]:
     return {(code, number) for code, number in view.rows(query)}
 
 
+@dataclass(eq=False)
 class Desk:
-    """One office, the address of its pages, and the view that they show. One thread reads the office as long as the
-    desk lives: the program that answers for a view ends with that thread."""
-
-    def __init__(self, office: Office, address: str, prefix: str, pretended: bool) -> None:
-        """Nothing is read yet: there may be no office."""
-        self.office, self.address, self.prefix = office, address, prefix
-        self.pretended = pretended  # whether the day is not the clock's
-        self.rehearsing = threading.Lock()  # one rehearsal at a time: each takes a core
-        self.reader, self.lock = ThreadPoolExecutor(1), threading.Lock()
-        self.held: View | None = None
-        self.reading: Future[None] | None = None  # the last one
-        self.stage = ""
+    """One office, the address of its pages, and the view that they show. Nothing is read yet: there may be no office."""
+    office: Office
+    address: str
+    prefix: str
+    pretended: bool  # whether the day is not the clock's
+    rehearsing: threading.Lock = field(default_factory=threading.Lock)  # one rehearsal at a time: each takes a core
+    reading: threading.Lock = field(default_factory=threading.Lock)
+    held: View | None = None
 
     def is_there(self) -> bool:
         return os.path.isfile(self.office.path)
 
-    def start_reading(self) -> Future[None]:
-        """The reading that is under way, else a new one."""
-        with self.lock:
-            if self.reading is None or self.reading.done():
-                self.reading = self.reader.submit(self.read)
-            return self.reading
-
-    def read(self) -> None:
-        """Reads the office, and puts it in the place of the view that is held."""
-        self.stage = COPYING
-        view = View(self.office)
-        with contextlib.suppress(Trouble, OSError):  # a page that asks the program says it
-            view.reading.prepare()
-        self.stage = COUNTING
-        sums(view)  # the first page shows them
-        self.held = view
-
-    def fresh(self, since: float = math.inf) -> View | None:
-        """The view that is held, if it was read since then or is still that of the office."""
+    def fresh(self) -> View | None:
+        """The view that is held, if it is still that of the office."""
         held = self.held
-        return held if held and (held.began >= since or held.reading.is_current()) else None
+        return held if held and held.reading.is_current() else None
 
     def view(self) -> View:
-        """The office as it is now. Raises `StillReading` where that takes longer than this request waits."""
-        asked, most = time.monotonic(), patience()
-        while not (found := self.fresh(asked)):
-            try:
-                self.start_reading().result(max(0, asked + most - time.monotonic()))
-            except TimeoutError:
-                raise StillReading(self.stage) from None
-        return found
-
-    def close(self) -> None:
-        self.reader.shutdown(cancel_futures=True)
-        self.held = None
+        """The office as it is now. The program that answers for it ends with the thread that asks first: this one,
+        which lives as long as the desk."""
+        with self.reading:
+            if not (found := self.fresh()):
+                found = View(self.office)
+                with contextlib.suppress(Trouble, OSError):  # a page that asks the program says it
+                    found.reading.prepare()
+                self.held = found
+            return found
 
 
 def desk() -> Desk:
@@ -202,3 +162,106 @@ def view() -> View:
 
 def candidate_row(number: int) -> sqlite3.Row:
     return view().row("SELECT number, name, code FROM candidate WHERE number = ?", [number]) or abort(404)
+
+
+class Asked(NamedTuple):
+    """What a form was given: its name on the page, all its values, and what is wrong, by field."""
+    form: str = ""
+    given: Form = MultiDict()
+    wrong: Mapping[str, object] = {}
+
+
+class Wrong(Exception):
+    """Values of a form that cannot be: the page that has the form, and what is said beside each field."""
+
+    def __init__(self, page: Page, **fields: object) -> None:
+        """A form is called as what it proposes, or as the function that takes it."""
+        super().__init__()
+        self.page = page
+        name = (request.view_args or {}).get("what") or str(request.endpoint).rpartition(".")[2]
+        self.asked = Asked(name, request.form, fields)
+
+
+def wrong_page(wrong: Wrong) -> ResponseReturnValue:
+    """The page of a form, with what is wrong at its fields and all that was given."""
+    g.asked, (endpoint, values) = wrong.asked, wrong.page
+    try:
+        return current_app.view_functions[endpoint](**values), 422
+    except Exception as fault:  # what the form is about is gone, or the office cannot be read
+        return current_app.handle_user_exception(fault)
+
+
+@contextlib.contextmanager
+def at_field(page: Page, field: str) -> Iterator[None]:
+    """What the package refuses is said beside a field."""
+    try:
+        yield
+    except Trouble as trouble:
+        raise Wrong(page, **{field: said(trouble.sentence)}) from trouble
+
+
+def lead(endpoint: str, said: Markup | None = None, kind: str = "good", **values: Any) -> Response:
+    """Leads to a page, which says what was done, or what is bad."""
+    if said is not None:
+        g.visit.said.append((kind, said))
+    return redirect(url_for(endpoint, **values), 303)
+
+
+def tell_papers() -> None:
+    """Has the next page say which printed papers are out of date, by session, since the notebook was changed."""
+    g.visit.said += [("bad", text("The papers of {session} are out of date: {halls}", session=session,
+                                  halls=", ".join(sorted({*sum(found.values(), [])})) or text("no hall")))
+                     for session, found in on_paper.otherwise(desk().office).items()]
+
+
+def checked(page: Page, form: Form, **columns: str) -> dict[str, str]:
+    """The values of fields, in the forms of columns; what is wrong stands at its field. A number may lack its zeros."""
+    values = {name: value_of(form, name, column) for name, column in columns.items()}
+    if wrong := {name: cure(column) for name, column in columns.items() if not typed.is_right(column, values[name])}:
+        raise Wrong(page, **wrong)
+    return values
+
+
+def value_of(form: Form, name: str, column: str) -> str:
+    if column == "reserved":
+        return "yes" if form.get(name) else "no"
+    if files.RIGHT.get(column) is files.is_features:
+        return "+".join(each for each in words.FEATURES if each in form.getlist(name)) or "-"
+    value = form.get(name, "").strip()
+    return typed.number(value) if column == "number" else value
+
+
+def cure(column: str) -> Markup:
+    if column in typed.CHOICES:
+        return text("choose one")
+    if column == typed.REASON:
+        return text("at most {most} letters in one line (é and other signs count as more than one)",
+                    most=typed.MOST_REASON)
+    return text(mistakes.CURES[column].removesuffix(typed.OF_A_SHEET))
+
+
+def keep(found: dict[str, Any], most: int, value: object) -> str:
+    """Keeps a thing of a visit under a key that nobody guesses, and drops the oldest beyond so many; gives the key."""
+    while len(found) >= most:
+        found.pop(next(iter(found)))
+    key = secrets.token_urlsafe(9)
+    found[key] = value
+    return key
+
+
+def styled(page: str) -> str:
+    """A sheet, whose own style the policy of this answer lets through, and no other."""
+    style = page[page.index("<style>") + len("<style>"):page.index("</style>")]
+    g.style = f" 'sha256-{base64.b64encode(hashlib.sha256(style.encode()).digest()).decode()}'"
+    return page
+
+
+def attached(content: bytes, name: str, kind: str = "text/csv") -> Response:
+    disposition = f'attachment; filename="{secure_filename(name)}"'
+    return Response(content, mimetype=kind, headers={"Content-Disposition": disposition})
+
+
+def archive(name: str, fill: Callable[[str], object]) -> Response:
+    """A zip of the files that are put into a folder; its name has the day."""
+    name = f"{name}-{desk().office.today().isoformat()}"
+    return attached(private.zipped(desk().office.path, name, fill), f"{name}.zip", "application/zip")

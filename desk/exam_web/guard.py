@@ -25,7 +25,6 @@ LINK_SECONDS = 600  # of a link that nobody opened
 IDLE_SECONDS = 8 * 3600
 MOST_UPLOAD = 32 << 20  # bytes of a request
 MOST_FROM_STRANGERS = 4096  # bytes of a request without a visit
-MOST_VISITS = 40
 LINKS, COOKIE, MARK = "links", "desk", "mark"
 OPEN = {"entering.page", "entering.enter", "static"}
 REFUSED = {"X-Content-Type-Options": "nosniff", "Cache-Control": "no-store"}
@@ -138,8 +137,6 @@ class Guard:
         the machine is sent it."""
         secret = secrets.token_urlsafe(32)
         with self.lock:
-            while len(self.visits) >= MOST_VISITS:
-                del self.visits[min(self.visits, key=lambda key: self.visits[key].seen)]
             self.visits[digest(secret)] = Visit(initials, self.mark)
         response.set_cookie(COOKIE, secret, path=self.prefix + "/", httponly=True, samesite="Strict")
 

@@ -5,20 +5,17 @@ import pathlib
 import re
 import sys
 import weakref
-from collections.abc import Iterable
 
-from flask import Blueprint, abort, g, render_template, request, url_for
-from markupsafe import Markup, escape
+from flask import Blueprint, abort, g, render_template, request
+from markupsafe import Markup
 from werkzeug.datastructures import FileStorage
 from werkzeug.wrappers import Response
 
-from exam_desk import backups, changing, copies, facts, keeping, logbook, notebook, on_paper, turns
+from exam_desk import backups, changing, copies, facts, keeping, logbook, notebook, turns
 from exam_desk.office import Stale, Trouble
-from exam_desk.words import Said
-from exam_web.desk import View, desk, office, once, sums, view
-from exam_web.forms import Wrong, archive, at_field, lead, tell_papers, whole
+from exam_web.desk import View, Wrong, archive, at_field, desk, lead, office, once, sums, tell_papers, view
 from exam_web.proposals import MOST_ROWS, Effects, copy_key
-from exam_web.wording import link, said, text
+from exam_web.wording import said, text
 
 pages = Blueprint("office", __name__)
 MOST_LINES = 200  # of the log
@@ -26,11 +23,6 @@ DESK = pathlib.Path(__file__).resolve().parent.parent
 COMMAND = str(DESK / "office")
 HANDBOOKS = [DESK.parent / "docs/HANDBOOK.md", DESK.parent.parent / "doc/examoffice/HANDBOOK.md"]
 HANDBOOK = next(filter(pathlib.Path.is_file, HANDBOOKS), None)  # none where a system installs no documentation
-ITEM = re.compile(r"^(- |[0-9]+\. )", re.M)  # of a list in it
-CODE, FORMS = re.compile("`([^`]+)`"), [  # of words in it, as HTML; of a link elsewhere the words stay
-    (re.compile(form, re.S), shown) for form, shown in (
-        (r"\[([^][]+)\]\((#[a-z0-9-]+)\)", r'<a href="\2">\1</a>'), (r"\[([^][]+)\]\([^()]+\)", r"\1"),
-        (r"\*\*(.+?)\*\*", r"<strong>\1</strong>"), (r"\*(.+?)\*", r"<em>\1</em>"))]
 LOWEST_PORT, HIGHEST_PORT = 1024, 65535
 
 
@@ -79,17 +71,9 @@ def copy(key: str) -> str:
         now = view()
     return render_template("copy.html", key=key, when=when, what=what, is_brought=copies.is_brought(path), since=since,
                            e=compared(now, path) if now else None, most=MOST_ROWS, doubt=copies.OTHERS, lost=lost,
-                           held=[] if now else [*sums(view_of(path)).values()], people=people(lost),
+                           held=[] if now else [*sums(view_of(path)).values()],
+                           names=facts.candidate_names(now.reading.rows) if now else {},
                            log=[line for line in log_since(since) if line[3] not in (logbook.BEGINS, logbook.STEP)])
-
-
-def people(lost: Iterable[Said]) -> dict[str, Markup]:
-    """The candidates of whom this is said, by number; the name of each leads to their page."""
-    found = {each.values.get("number") for each in lost}
-    with contextlib.suppress(Trouble):  # the office is not there, or cannot be read
-        return {number: link(url_for("candidates.page", number=int(number)), f"{name} {number}")
-                for number, name in facts.candidate_names(view().reading.rows).items() if number in found}
-    return {}
 
 
 def view_of(path: str) -> View:
@@ -124,20 +108,20 @@ def back(key: str) -> Response:
         return lead("office.copy", other, "bad", key=key)
     if not is_back:
         wrong = text("tick each of these, or leave the office as it is")
-        raise Wrong(("office.copy", {"key": key}), "back", lost=wrong)
-    g.visit.backup, names = None, people(lost) if lost else {}
+        raise Wrong(("office.copy", {"key": key}), lost=wrong)
+    g.visit.backup = None
     done = [text("The office is as in {name}.", name=what) if copies.is_brought(path) else
             text("The office is as it was on {when}.", when=when)]
     return lead("office.page", Markup(" ").join(
         [*done, *([text("The office from before is the newest copy.")] if kept else []),
-         *(Markup("<br>{}").format(said(line, names)) for line in lost if line.text != copies.OTHERS)]))
+         *(Markup("<br>{}").format(said(line)) for line in lost if line.text != copies.OTHERS)]))
 
 
 @pages.post("/office/bring")
 def bring() -> Response:
     """Takes a backup in, for a look; the office stays as it is."""
     page = "office.page" if desk().is_there() else "season.page"
-    with at_field((page, {}), "bring", "backup"), desk().rehearsing:
+    with at_field((page, {}), "backup"), desk().rehearsing:
         g.visit.backup = Backup(request.files["backup"])
     return lead("office.copy", key=copy_key(g.visit.backup.path))
 
@@ -146,43 +130,35 @@ def bring() -> Response:
 def school() -> Response:
     """Keeps the name of the school, which stands on its papers, or takes it away."""
     name = request.form.get("name", "").strip()
-    with at_field(("office.page", {}), "school", "name"):
+    with at_field(("office.page", {}), "name"):
         notebook.set_school_name(office(), name)
-    tell_papers(on_paper.otherwise(office(), {}, {on_paper.OF_SCHOOL: name}))
+    tell_papers()
     told = text("The papers of the school have its name now.") if name else text("The school has no name now.")
-    return lead("office.page", told, _anchor="school")
+    return lead("office.page", told)
 
 
 @pages.get("/handbook")
 def handbook() -> str:
     """The handbook as it lies beside the desk, in its chapters."""
-    _, title, *parts = re.split("^#+ (.+)\n", (HANDBOOK or abort(404)).read_text("utf-8"), flags=re.M)
-    return render_template("handbook.html", title=title, first=parts[0], items=ITEM.split, words=words,
-                           chapters=zip(parts[1::2], parts[2::2]))
-
-
-def words(text: str) -> Markup:
-    """Words of the handbook; nothing that stands in code is a form."""
-    found = CODE.sub(lambda code: f"<code>{code[1].translate({42: '&#42;', 91: '&#91;'})}</code>", str(escape(text)))
-    for form, shown in FORMS:
-        found = form.sub(shown, found)
-    return Markup(found)
+    _, title, first, *parts = re.split("^#+ (.+)\n", (HANDBOOK or abort(404)).read_text("utf-8"), flags=re.M)
+    return render_template("handbook.html", title=title, first=first, chapters=zip(parts[::2], parts[1::2]))
 
 
 @pages.post("/office/keep")
 def keep() -> Response:
     """Has candidates served at a port, or no longer."""
-    what, port = request.form.get("what"), request.form.get("port", "")
+    what, port = request.form.get("what"), request.form.get("port", 0, int)
     if what == "stop":
         keeping.stop(office())
-        return lead("office.page", text("Candidates are not served any more."), _anchor="serve")
+        return lead("office.page", text("Candidates are not served any more."))
     if what != "start":
         abort(400)
-    if not (re.fullmatch("[0-9]{1,5}", port) and LOWEST_PORT <= int(port) <= HIGHEST_PORT):
-        raise Wrong(("office.page", {}), "keep", port=whole(LOWEST_PORT, HIGHEST_PORT))
-    with at_field(("office.page", {}), "keep", "port"):
-        status = keeping.start(office(), [sys.executable, COMMAND, "keep", "run", port])
-    return lead("office.page", said(status.sentence), "good" if status.serves else "bad", _anchor="serve")
+    if not LOWEST_PORT <= port <= HIGHEST_PORT:
+        cure = text("a whole number from {low} to {high}", low=LOWEST_PORT, high=HIGHEST_PORT)
+        raise Wrong(("office.page", {}), port=cure)
+    with at_field(("office.page", {}), "port"):
+        status = keeping.start(office(), [sys.executable, COMMAND, "keep", "run", str(port)])
+    return lead("office.page", said(status.sentence), "good" if status.serves else "bad")
 
 
 @pages.post("/office/backup")

@@ -9,34 +9,32 @@ import math
 import os
 import sqlite3
 import threading
-import time
 from collections import Counter
 from collections.abc import Callable, Mapping, Sequence
 from dataclasses import dataclass, field
 from functools import partial
 from operator import attrgetter
-from typing import Any
 
 from flask import Blueprint, abort, g, render_template, request, url_for
 from markupsafe import Markup
 from werkzeug.wrappers import Response
 
 from exam_desk import (changing, copies, effects, facts, files, lodging, logbook, private, refusals,
-                       second_sitting, snapshot, telling, words)
+                       second_sitting, telling)
 from exam_desk.changing import Answered, Step
 from exam_desk.listed import OF_THE_OFFICE
 from exam_desk.office import Office, Stale, Trouble
 from exam_desk.reading import Reading
 from exam_desk.second_sitting import left_behind
-from exam_web.desk import AT_ONCE, PATIENCE, UNSEATED, Desk, View, desk, office, sittings, sums, view
-from exam_web.forms import Asked, Form, Page, Wrong, attached, keep, lead
-from exam_web.wording import link, said, text
+from exam_web.desk import (UNSEATED, Asked, Desk, Form, Page, View, Wrong, attached, desk, keep, lead,
+                           office, sittings, sums, view)
+from exam_web.wording import said, text
 
 pages = Blueprint("proposals", __name__)
+PATIENCE = 4  # seconds that a request waits for a rehearsal
 MOST_PROPOSALS = 20  # of a visit
 MOST_ROWS = 250  # of a list on the page; all who must be told are in the CSV file
 MOST_LINES = 20  # of the log, where the office was another
-MOST_CLASHES = 100  # new ones that are named
 TICKED = {"over": 1, "loses": 10, "needs": 1, "clashes": 1, "twice": 1, "name": 10}  # by kind: from how many on
 COMPARING, LODGING = "Both states are compared", "The appeal is lodged"
 OTHER_OFFICE = ("the office has changed since the page that you came from, so nothing was done: go back to the form, "
@@ -45,10 +43,8 @@ WRONG_DESK = "the desk is wrong here; the office is as the log says"
 TROUBLE = 0  # among the numbers of refusals: what the desk refuses itself
 APPEALS = ("SELECT appeal.*, day, session.start AS start, name FROM appeal JOIN session ON session.code = session "
            "JOIN candidate ON candidate.number = appeal.number ")
-ARRANGED = "SELECT printf('%07d', number), needs, extra FROM arrangement"
-OF_GRANTED = f"{ARRANGED} WHERE number IN (SELECT number FROM appeal WHERE {snapshot.GRANTED_NEEDS})"
 BY_DAY = "ORDER BY day, session.start, lodged, appeal.number"
-KINDS = ["short", *telling.KINDS, "codes"]  # the gravest first; their words are in templates/effects.html
+KINDS = ["short", *telling.KINDS]  # the gravest first; their words are in templates/effects.html
 NUMBERS = attrgetter("members", "desks", "short", "clashes")  # of a session
 
 
@@ -58,40 +54,25 @@ class Effects(effects.Effects):
     def __init__(self, before: View, after: View) -> None:
         """Lists are cut where the page ends them; counts are whole."""
         then, now, was, are = before.reading, after.reading, sums(before), sums(after)
-        super().__init__(then, now, MOST_CLASHES)
+        super().__init__(then, now)
         self.to_tell = [each for each in self.changes if each.is_to_tell()]
         self.desk_only = Counter(each.session for each in self.kinds.get("desk", []))  # by session
         self.new = facts.access_codes(now.rows).keys() - facts.access_codes(then.rows).keys()  # without a page before
         self.sessions = [(was.get(code), are.get(code)) for code in {**are, **was} if code in self.touched
                          and not (code in was and code in are and NUMBERS(was[code]) == NUMBERS(are[code]))]
         self.rows = [*itertools.islice(telling.other_values(then, now), MOST_ROWS)]
-        arranged = {*map(tuple, then.rows.execute(ARRANGED))}
-        self.granted = [(now.person(row[0]), found) for row in now.rows.execute(OF_GRANTED).fetchall()
-                        if tuple(row) not in arranged and (found := granted(now, row[0]))]
-        self.clashing = [(code, now.member(code, person.number), missed) for code, person, missed in self.clashes]
+        self.clashing = [(code, now.member(code, person.number), missed)
+                         for code, person, missed in self.clashes[:MOST_ROWS]]
         short = set() if self.changes else sittings(after, UNSEATED) - sittings(before, UNSEATED)
         self.short = [(code, person) for code in are for person in effects.by_name(
             now, [number for session, number in short if session == code])][:MOST_ROWS]
-        who: dict[str, list[Any]] = {kind: [each.number for each in part] for kind, part in self.kinds.items()} | {
-            "over": list(self.over), "past": self.past, "opened": list(self.opened), "shut": self.shut,
-            "short": [number for _, number in short],
-            "clashes": [number for _, number in {(code, person.number) for code, person, _ in self.clashes}
-                        | sittings(after, AT_ONCE) - sittings(before, AT_ONCE)],
-            "twice": [person.number for _, people in self.overlaps for person in people],
-            "halls": [(each.early, each.late, hall) for each, _ in self.overlaps for hall in each.halls],
-            "codes": [person.number for person in self.codes]}
+        who = {kind: effects.who(kind, found) for kind, found in self.met.items() if kind != effects.PRINTED} | {
+            "short": [number for _, number in short]}
         self.counts = {kind: telling.people_and_sittings(who[kind]) for kind in KINDS if who.get(kind)}
         self.titles = telling.titles_of(then, now)
 
     def csv(self, name: str) -> Response:
         return attached(telling.csv_text(self.changes, self.titles).encode("utf-8", "surrogateescape"), name)
-
-
-def granted(reading: Reading, number: str) -> list[str]:
-    """The sessions in which the program says another arrangement than the imported one: a grant is in force there."""
-    _, needs, extra = reading.rows.execute(f"{ARRANGED} WHERE number = ?", [int(number)]).fetchone() or (number, 0, 0)
-    return [session for session, sits in reading.all_of(number).items()
-            if (sits.needs, sits.extra) != (tuple(words.features(needs)), extra)]
 
 
 @dataclass
@@ -107,14 +88,12 @@ class Plan:
     lodge: tuple[str, ...] = ()  # in the place of steps: the words of an appeal that is lodged the candidate's way
     command: str = ""  # as the log has it, where it is not the steps
     made_for: str = ""  # the state that the steps were made for; "" where they suit each
-    make: Callable[[], Step] | None = None  # the step for the state that there is at a rehearsal
     done: Callable[[], None] = lambda: None  # is called once it is carried out
     look: Callable[[Reading, Reading], Sequence[object]] = left_behind  # says more of a rehearsal, or refuses it
     asked: Asked = field(default_factory=lambda: Asked((request.view_args or {}).get("what", ""), request.form))
     key: str = ""
     lock: threading.Lock = field(default_factory=threading.Lock)  # of who does it
     working: threading.Thread | None = None
-    began: float = 0
     stage: str = ""
     since: str = ""  # when the state was read
     made_from: str = ""  # the states from before the rehearsal, and after it
@@ -145,43 +124,26 @@ class Plan:
         left = {} if self.is_done else {"again": self.key, "_anchor": place}
         return url_for(endpoint, **{**values, **left})
 
-    def met(self) -> dict[str, tuple[int, int]]:
-        """How many candidates and sittings, or halls, the button meets in each way; a lodging moves nobody."""
-        return self.effects.counts if self.effects and not self.lodge else {}
-
     def ticked(self) -> list[str]:
-        """The kinds that want a tick before the button."""
-        return [kind for kind, (count, _) in self.met().items() if count >= TICKED.get(kind, math.inf)]
-
-    def words(self) -> list[Markup]:
-        """Why it cannot be done, as the program or the desk says; none where it can."""
-        return [said(each.strip()) for each in self.against]
-
-    def imported(self) -> list[tuple[str, int, int, int]]:
-        """For each file of an import the rows that are added, changed and the same."""
-        is_file = self.asked.form == "files"
-        parts = [(each.step, each.first_line().split()) for each in self.answers if is_file or len(self.steps) > 1]
-        return [(step.words[1], int(said[1]), int(said[3]), int(said[5])) for step, said in parts
-                if said[::2] == ["added", "changed", "same"]]
-
-    def refuse(self, who: Office, answered: Answered) -> None:
-        self.refusal = answered.first_line()
-        self.against = answered.explained(who) or [self.refusal]
+        """The kinds that want a tick before the button; a lodging moves nobody."""
+        counts = self.effects.counts if self.effects and not self.lodge else {}
+        return [kind for kind, (count, _) in counts.items() if count >= TICKED.get(kind, math.inf)]
 
     def take(self, who: Office, answers: list[Answered]) -> None:
         """Keeps what the program said of the steps, and in words where it refuses the last."""
         self.answers = answers
         if refused := changing.refused_of(answers):
-            self.refuse(who, refused)
+            self.refusal = refused.first_line()
+            self.against = [each.strip() for each in refused.explained(who)] or [self.refusal]
 
     def grant(self, who: Office) -> list[Step]:
         """Lodges the appeal, and keeps its reference; gives the step that would grant it, none where it is refused."""
         lodged = lodging.lodge(who, self.lodge)
-        if lodged.ran.status:
-            self.refuse(who, lodged)
+        self.take(who, [lodged])
+        if self.refusal:
             return []
         self.lodged = lodged.first_line().split()[1]
-        return [Step(("decide", self.lodge[0], self.lodged, "granted", ""))]
+        return [lodging.grant(lodged)]
 
 
 PLANS: dict[str, Callable[[Form], Plan]] = {}  # what forms ask, by the name of the form; screens put theirs in
@@ -198,10 +160,6 @@ def import_step(kind: str, values: Mapping[str, str]) -> Step:
     return second_sitting.imported(kind, [values[name] for name in files.HEADERS[kind]])
 
 
-def features(form: Form, field: str = "needs") -> str:
-    return "+".join(name for name in words.FEATURES if name in form.getlist(field)) or "-"
-
-
 @pages.post("/propose/<what>")
 def propose(what: str) -> Response:
     """Rehearses what a form asks. Raises `Wrong` for a refusal that belongs to a field."""
@@ -212,7 +170,7 @@ def propose(what: str) -> Response:
     name = plan.fields.get(number, plan.beside if number not in (TROUBLE, *OF_THE_OFFICE) else "")
     if name and plan.against and not plan.is_working:
         del g.visit.proposals[plan.key]
-        raise Wrong(plan.form_page or plan.page, **{name: Markup("; ").join(plan.words())})
+        raise Wrong(plan.form_page or plan.page, **{name: Markup("; ").join(map(said, plan.against))})
     return lead("proposals.page", key=plan.key)
 
 
@@ -230,7 +188,7 @@ def work(plan: Plan, task: Callable[[Plan, Desk, Office], None]) -> None:
         except Exception:
             plan.against = [WRONG_DESK]
             raise
-    plan.against, plan.began = [], time.monotonic()
+    plan.against = []
     plan.working = threading.Thread(target=run, daemon=True)
     plan.working.start()
     plan.working.join(PATIENCE)
@@ -240,7 +198,7 @@ def rehearse(plan: Plan, here: Desk, who: Office) -> None:
     """Carries the plan out on a private copy, and keeps what that would come to; an appeal is lodged and granted there.
     Raises `Trouble` where the steps were made for another state, whatever they would do in this one."""
     plan.since = datetime.datetime.now().isoformat(" ", "seconds")
-    steps = plan.steps = [plan.make()] if plan.make else plan.steps
+    steps = plan.steps
     with contextlib.ExitStack() as stack:
         if plan.lodge:
             plan.stage = LODGING
@@ -259,7 +217,7 @@ def rehearse(plan: Plan, here: Desk, who: Office) -> None:
             after = View(here.office, rehearsal.after)
             looked = plan.look(before.reading, after.reading)
             plan.effects = met = Effects(before, after)
-            plan.lines = [*looked, *effects.notes(before.reading, after.reading, effects.groups(met), False)]
+            plan.lines = [*looked, *met.notes()]
             plan.made_from, plan.promised = before.name, after.name
 
 
@@ -295,16 +253,13 @@ def page(key: str) -> str:
     """A plan at its stage: how far it is, what it would change or has changed, or why it cannot be."""
     plan: Plan = g.visit.proposals.get(key) or abort(404)
     if plan.is_working:
-        return render_template("working.html", p=plan, seconds=int(time.monotonic() - plan.began))
+        return render_template("working.html", p=plan)
     kept, following = copies.listed(desk().office) if plan.copy else [], None
     if plan.is_done and plan.asked.form == "decide":
         following = view().row(f"{APPEALS} WHERE state = 1 AND day > ? {BY_DAY}", [desk().office.today().isoformat()])
-    forms = {} if not plan.lines else {  # by the code of a session or a paper what leads to the form that changes it
-        code: link(url_for("session.page", code=code, _anchor="session"), code) for code in sums(view())} | {
-        code: link(url_for("session.paper", paper=code), code) for code, in view().rows("SELECT code FROM paper")}
     since = [copies.when_and_what(each) for each in itertools.takewhile(lambda each: each != plan.copy, kept)]
     return render_template("proposal.html", p=plan, most=MOST_ROWS, next_appeal=following, since=since,
-                           has_copy=plan.copy in kept, forms=forms)
+                           has_copy=plan.copy in kept)
 
 
 @pages.post("/proposals/<key>/do")
@@ -315,7 +270,7 @@ def do(key: str) -> Response:
         if plan.can_be_done:
             if plan.ticked() and not request.form.get("tick"):
                 wrong = text("tick this, or leave the office as it is")
-                raise Wrong(("proposals.page", {"key": key}), "do", tick=wrong)
+                raise Wrong(("proposals.page", {"key": key}), tick=wrong)
             work(plan, carry_out)
     return lead("proposals.page", key=key)
 

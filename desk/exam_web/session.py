@@ -16,23 +16,15 @@ from exam_desk.overlaps import of_day
 from exam_desk.reading import Member
 from exam_desk.sheets import papers, slips
 from exam_desk.words import clock, parted
-from exam_web.desk import AT_ONCE, View, desk, office, once, sittings, sums, view
-from exam_web.forms import Form, Page, Wrong, at_field, attached, checked, lead, styled, tell_papers, whole
-from exam_web.proposals import APPEALS, PLANS, Plan, command, features, import_step
+from exam_web.desk import (Form, Page, View, Wrong, at_field, attached, checked, desk, lead, office, once, styled, sums,
+                           tell_papers, view)
+from exam_web.proposals import APPEALS, PLANS, Plan, command, import_step
 from exam_web.wording import many, text
 
 pages = Blueprint("session", __name__)
 MOST_PEOPLE = 100  # that a page lists for one reason
 MOST_EXPLAINED = 30
-WIDTH, HEIGHT, GAP = 78, 50, 5  # of a desk in a picture, and from one to the next
-RUNNING = dict(zip(notebook.RUNNING, ("along the rows", "along and back", "down the columns", "down and up")))
 MOST_SUPPOSED = 14  # desks in a row, where nobody said how many
-
-
-SHEETS = {  # what the papers of a session are called, by the command that prints each
-    "doors": "Invigilators' sheets", "signatures": "Lists for candidates to sign", "poster": "Posters for doors",
-    "cards": "Desk cards", "chart": "Seating charts", "slips": "Slips for candidates, with desk numbers",
-    "board": "Notice board by name", "counts": "Copies of each paper"}
 
 
 class Session:
@@ -67,11 +59,10 @@ class Session:
                 for hall in sorted(titles, key=lambda hall: (hall in self.halls, hall))]
 
     def clashes(self, most: int) -> list[tuple[Member, list[str]]]:
-        """Who has two papers at once, and which they miss, as the program says of those with two live entries."""
-        numbers = sorted(number for code, number in sittings(view(), AT_ONCE) if code == self.code)[:most]
-        missed = view().reading.clashes(self.code, numbers)
-        return [(member, missed[member.number]) for member in view().reading.members(self.code, numbers)
-                if member.number in missed]
+        """Who has two papers at once, and which they miss."""
+        missed = view().reading.clashes(self.code)
+        members = view().reading.members(self.code, [*missed][:most])
+        return [(member, missed[member.number]) for member in members]
 
 
 @pages.get("/sessions/<code>")
@@ -106,12 +97,9 @@ def hall_page(code: str, hall: str) -> str:
     seated = view().rows("SELECT printf('%07d', number) FROM seat WHERE session = ? AND hall = ?", [code, hall])
     members = lists.by_desk(view().reading.members(code, [number for number, in seated]), hall)
     rows = standing(opening)
-    desks = sorted((number, column * (WIDTH + GAP) + 2, row * (HEIGHT + GAP) + 2)
-                   for row, line in enumerate(papers.numbered(opening.desks, rows))
-                   for column, number in enumerate(line) if number is not None)
-    return render_template("hall.html", s=shown.sums, opening=opening, rows=rows, desks=desks, members=members,
-                           by_desk={member.sitting.desk: member for member in members}, desk_width=WIDTH,
-                           desk_height=HEIGHT, codes=[row["code"] for row in shown.papers()],
+    return render_template("hall.html", s=shown.sums, opening=opening, rows=rows, members=members,
+                           grid=papers.numbered(opening.desks, rows), codes=[row["code"] for row in shown.papers()],
+                           by_desk={member.sitting.desk: member for member in members},
                            absent=notebook.absent(desk().office, code) or ())
 
 
@@ -136,38 +124,36 @@ def draw(code: str) -> Response:
     charts: Page = ("session.sheet", {"code": code, "sheet": "chart", "hall": request.form.getlist("of")})
     drawn, is_chart = {hall: Rows(request.form.get(f"across-{hall}", 0, int), request.form.get(f"running-{hall}", ""))
                        for hall in halls}, "chart" in request.form
-    if wrong := {f"across-{hall}": whole(1, notebook.MOST_ACROSS) for hall, rows in drawn.items()
-                 if not notebook.can_stand(rows)}:
-        raise Wrong(charts if is_chart else shown.hall_page(halls[0]), "draw", **wrong)
+    cure = text("a whole number from {low} to {high}", low=1, high=notebook.MOST_ACROSS)
+    if wrong := {f"across-{hall}": cure for hall, rows in drawn.items() if not notebook.can_stand(rows)}:
+        raise Wrong(charts if is_chart else shown.hall_page(halls[0]), **wrong)
     for hall, rows in drawn.items():
         notebook.keep_rows(office(), hall, rows)
-        tell_papers(on_paper.otherwise(office(), {}, {on_paper.OF_ROWS.format(hall): str(rows)}))
+    tell_papers()
     g.visit.said += [] if is_chart else [("good", text("{hall} is drawn so now.", hall=halls[0]))]  # beside its picture
     return lead(charts[0], **charts[1]) if is_chart else lead("session.page", code=code, _anchor=f"hall-{halls[0]}")
 
 
 @pages.post("/sessions/<code>/absent")
-def note_absent(code: str) -> Response:
+def absent(code: str) -> Response:
     """Notes who is named or newly ticked; who was shown and is not ticked was there. So what others noted stays."""
     shown, ticked, was = Session(code), *(set(request.form.getlist(name)) for name in ("absent", "was"))
     typed = parted(request.form.get("numbers", ""))
-    with at_field(shown.page, "absent", "numbers"):
+    with at_field(shown.page, "numbers"):
         found = notebook.note_absent(office(), view().reading, code, [*sorted(ticked - was), *typed], was - ticked,
                                      "nobody" in request.form)
     told = many(len(found), "{count} candidate is noted as absent in {session}.",
                 "{count} candidates are noted as absent in {session}.", session=code)
-    return lead("session.page", told, code=code, _anchor="absent")
+    return lead("session.page", told, code=code)
 
 
-@pages.get("/sessions/<code>/attendance.csv")
-def attendance_csv(code: str) -> Response:
-    return attached(notebook.attendance(view().reading, [Session(code).code]).encode(), f"{code}-attendance.csv")
-
-
-@pages.get("/sessions/<code>/seats.csv")
-def seats_csv(code: str) -> Response:
-    content = slips.csv_text(view().reading, slips.Choice(sessions=[Session(code).code], desks=True))
-    return attached(content.encode("utf-8", "surrogateescape"), f"{code}-seats.csv")
+@pages.get("/sessions/<code>/<any(attendance, seats):what>.csv")
+def csv(code: str, what: str) -> Response:
+    """The list for the exam board, or who sits where."""
+    reading, sessions = view().reading, [Session(code).code]
+    content = (notebook.attendance(reading, sessions) if what == "attendance"
+               else slips.csv_text(reading, slips.Choice(sessions=sessions, desks=True)))
+    return attached(content.encode("utf-8", "surrogateescape"), f"{code}-{what}.csv")
 
 
 @pages.get("/sessions/<code>/print/<sheet>")
@@ -175,14 +161,16 @@ def sheet(code: str, sheet: str, hall: Sequence[str] = ()) -> str:
     """A sheet to print, of all halls or of some. A chart asks first how desks stand where nobody has said it."""
     shown = Session(code)
     halls = [shown.opening(each).hall for each in hall or request.args.getlist("hall")]
-    if sheet not in SHEETS:
+    if sheet not in on_paper.ALL.split():
         abort(404)
     if sheet == "slips":
         return styled(slips.page(view().reading, slips.Choice([code], desks=True)))
-    if sheet == "chart" and (asked := papers.not_drawn(view().reading, code, halls)):
-        found = [(each, standing(each)) for each in map(shown.opening, asked)]
+    drawn = notebook.rows_of_halls(desk().office)
+    if sheet == "chart" and (asked := [opening for opening, _ in lists.halls(view().reading, code, halls)
+                                       if opening.hall not in drawn]):
+        found = [(each, standing(each)) for each in asked]
         return render_template("charts.html", s=shown.sums, halls=found, of=halls)
-    return styled(getattr(papers, sheet)(view().reading, code, *([halls] if sheet in on_paper.BY_HALL else [])))
+    return styled(papers.page(view().reading, sheet, code, halls))
 
 
 @pages.get("/sessions/<code>/printed")
@@ -199,29 +187,29 @@ def note_printed(code: str) -> Response:
     Session(code)
     if request.form.get("state") != view().name:
         told = text("Nothing is noted: the office is another than the page showed. Print the sheets again.")
-        return lead("session.page", told, "bad", code=code, _anchor="print")
+        return lead("session.page", told, "bad", code=code)
     desks, _ = on_paper.note(office(), view().reading, code)
     told = many(desks,
                 "{count} desk of {session} is noted as printed, of state {state}; the foot of papers must say that.",
                 "{count} desks of {session} are noted as printed, of state {state}; the foot of papers must say that.",
                 session=code, state=view().reading.mark)
-    return lead("session.page", told, code=code, _anchor="print")
+    return lead("session.page", told, code=code)
 
 
 def opening(form: Form, page: Page, shown: Session) -> Plan:
     """A hall that is to be open, which was chosen or which the office does not know yet."""
     is_new = form.get("new_hall", "").strip() != ""
-    names = {"new_hall": "hall", "new_title": "title"} if is_new else {"hall": "hall"}
-    hall, *titles, desks, until = checked(page, form, **names, desks="desks", until="until").values()
-    if is_new and view().row("SELECT 1 FROM hall WHERE code = ?", [hall]):
+    fields = {"new_hall": "hall", "new_title": "title", "new_features": "features"} if is_new else {"hall": "hall"}
+    values = checked(page, form, **fields, desks="desks", until="until", reserved="reserved")
+    values |= {"session": shown.code, **{column: values[name] for name, column in fields.items()}}
+    if is_new and view().row("SELECT 1 FROM hall WHERE code = ?", [values["hall"]]):
         raise Wrong(page, new_hall=text("the office has this hall: choose it from the list"))
-    values = {"session": shown.code, "hall": hall, "desks": desks, "until": until,
-              "reserved": "yes" if form.get("reserved") else "no", "is_open": "yes" if hall in shown.halls else ""}
-    new = [import_step("halls", {"hall": hall, "title": title, "features": features(form, "new_features")})
-           for title in titles]
-    named = " ".join(["open-hall", shown.code, hall, desks, until, *(["--reserved"] if form.get("reserved") else [])])
-    return Plan(values, [*new, import_step("openings", values)], shown.page, "hall", {20: "desks"}, form_page=page,
-                command=", ".join([*(step.title() for step in new), named]))
+    new = [import_step("halls", values)] if is_new else []
+    named = ["open-hall", *(values[name] for name in ("session", "hall", "desks", "until")),
+             *(["--reserved"] if values["reserved"] == "yes" else [])]
+    return Plan({**values, "is_open": "yes" if values["hall"] in shown.halls else ""},
+                [*new, import_step("openings", values)], shown.page, "hall", {20: "desks"}, form_page=page,
+                command=", ".join([*(step.title() for step in new), " ".join(named)]))
 
 
 def open_hall(form: Form) -> Plan:
@@ -252,9 +240,7 @@ def change_row(kind: str, form: Form) -> Plan:
     if not view().row(f"SELECT 1 FROM {table} WHERE code = ?", [code]):
         abort(404)
     page = {"paper": ("session.paper", {"paper": code}), "hall": shown.hall_page(code)}.get(table, shown.page)
-    sets = [name for name in columns if files.RIGHT[name] is files.is_features]
-    values = checked(page, form, **{name: name for name in columns if name not in sets})
-    values |= {table: code, **{name: features(form, name) for name in sets}}
+    values = {table: code, **checked(page, form, **dict(zip(columns, columns)))}
     beside = "session" if "session" in columns else columns[0]
     return Plan(values, [import_step(kind, values)], shown.page, beside, form_page=page)
 

@@ -1,106 +1,287 @@
-"""Files: what the office has; what a browser brings, its mistakes with cures, and corrections on the spot."""
-from collections.abc import Mapping
+"""Files: what the office has; what a browser brings, its mistakes with cures, and corrections on the spot.
+
+The seven files are taken as they are, and all else as sheets, which are read together. No name that a browser sends
+becomes a path: it is compared and shown. A zip is read in memory and never unpacked.
+"""
+import datetime
+import itertools
+import zipfile
+from collections import defaultdict
+from collections.abc import Callable, Iterable, Iterator, Mapping
+from dataclasses import dataclass, field, replace
 from functools import partial
+from pathlib import PureWindowsPath
 from typing import NamedTuple
 
 from flask import Blueprint, abort, g, render_template, request
+from markupsafe import Markup
+from werkzeug.datastructures import FileStorage
 from werkzeug.wrappers import Response
 
-from exam_desk import coding, dumping, files, mistakes
+from exam_desk import backups, coding, dumping, files, mistakes
 from exam_desk.changing import Step
-from exam_desk.second_sitting import left_behind
 from exam_desk.mistakes import Mistake
-from exam_desk.workbook.headers import HEADER_WORDS
-from exam_desk.workbook.reading import workbook_of
+from exam_desk.office import Trouble
+from exam_desk.workbook import tables
+from exam_desk.workbook.cells import MOST_CELLS, MOST_FILE, Book
+from exam_desk.workbook.headers import HEADER_WORDS, Given, folded, is_called_list, read_columns
+from exam_desk.workbook.opening import book_of
+from exam_desk.workbook.reading import encoded, read_book, workbook_of
+from exam_desk.workbook.rows import Record
 from exam_desk.workbook.values import Way
-from exam_web.desk import desk, view
-from exam_web.forms import Form, Page, Wrong, archive, attached, keep, lead
-from exam_web.incoming import Book, Upload, below_header, take_books, taken
+from exam_web.desk import Form, Page, Wrong, archive, at_field, attached, keep, lead, view
 from exam_web.proposals import PLANS, Plan
-from exam_web.wording import many, text
+from exam_web.wording import many, said, shown, text
 
 pages = Blueprint("files", __name__)
+MOST_MEMBERS = 64  # of a zip
+MOST_NAME = 80  # letters that are shown
+NO_TABLE = (".pdf", ".doc", ".docx", ".odt", ".rtf", ".pages", ".numbers", ".jpg", ".jpeg", ".png", ".gif", ".webp",
+            ".heic")
+HIDDEN = (".", "~$")  # how names begin of what macOS adds, and of what Excel keeps beside a workbook that is open
 MOST_UPLOADS = 4  # of a visit
 MOST_SHOWN = 40  # mistakes of a file on the page
 MOST_CURED = 20_000  # of a file that one press of a button can mend
 MOST_VALUE = 400  # letters of a value that is typed
-MOST_LINES = 300  # of a workbook, on the page
+MOST_LINES = 300  # on workbooks, on the page
 MOST_LISTED = 300  # rows that are withdrawn or reinstated one by one, while nobody else has the office
 WORKBOOK = "application/vnd.openxmlformats-officedocument.spreadsheetml.sheet"
+DATES, HIDDEN_ROWS, LISTED = ["", "day-first", "month-first"], ["", "take", "leave"], ["withdraw", "reinstate"]
+
+
+@dataclass
+class Upload:
+    """Files that came to the desk; corrections are made in these bytes."""
+    way: Way
+    hidden: str = ""  # what becomes of hidden rows and sheets: take or leave; "" asks
+    names: list[str] = field(default_factory=list)  # as the browser and zips have them
+    texts: dict[str, bytes] = field(default_factory=dict)  # of the seven files, by kind
+    books: list[tuple[str, bytes]] = field(default_factory=list)  # what is none of the seven as it is, until it is read
+    given: Mapping[str, Given] | None = None  # what a file of columns says of them
+    report: tables.Report = field(default_factory=tables.Report)  # on the sheets of the books
+    rows: dict[str, list[tuple[bytes, ...]]] = field(default_factory=dict)  # of sheets with mistakes, by kind
+    is_called_list: bool = False  # a file, or a sheet of entries, is called withdrawals or reinstatements
+    notes: list[Markup] = field(default_factory=list)
+    mistakes: int = 0  # that the last look found
+    is_imported: bool = False
+    when: str = field(default_factory=lambda: datetime.datetime.now().isoformat(" ", "minutes"))
+
+    @property
+    def kinds(self) -> list[str]:
+        return [kind for kind in files.HEADERS if kind in self.texts]
+
+    def note(self, name: str, words: Markup) -> None:
+        note = Markup("{}: {}").format(shown(name[:MOST_NAME]), words)
+        self.notes += [note] * (note not in self.notes)
+
+    def take(self, kind: str, content: bytes, name: str) -> None:
+        if content == self.texts.get(kind):
+            self.note(name, text("it is there twice, and is taken once"))
+        elif kind in self.texts:
+            self.note(name, text("another file has {kind} too: import that one, then bring this by itself", kind=kind))
+        else:
+            self.texts[kind] = content
+
+
+def taken(storages: Iterable[FileStorage], way: Way, hidden: str) -> Upload:
+    """The files that come together. Raises `Trouble` where one of columns is wrong."""
+    upload = Upload(way, hidden)
+    for name, content, most in parts(upload, storages):
+        upload.names.append(name[-MOST_NAME:])
+        upload.is_called_list |= is_called_list(name)
+        take(upload, name, content, most)
+    read_books(upload)
+    upload.books = []
+    return upload
+
+
+def bare(path: str) -> str:
+    """The name of a file without its folders; "" for one that is hidden."""
+    name = PureWindowsPath(path).name
+    return "" if name.startswith(HIDDEN) else name
+
+
+def parts(upload: Upload, storages: Iterable[FileStorage]) -> Iterator[tuple[str, bytes, int]]:
+    """Each file by its bare name, and those of a zip, with the bytes that it may have; a zip of too many is left."""
+    for storage in storages:
+        name = bare(storage.filename or "")
+        if name and not name.lower().endswith(".zip"):
+            content = storage.stream.read()
+            yield name, content, MOST_FILE if content.startswith(b"PK") else files.MOST_BYTES
+        elif name:
+            try:
+                yield from members(upload, name, zipfile.ZipFile(storage.stream))
+            except backups.UNREADABLE as fault:
+                upload.note(name, text("it cannot be read: {why}", why=str(fault)))
+
+
+def members(upload: Upload, name: str, archive: zipfile.ZipFile) -> Iterator[tuple[str, bytes, int]]:
+    found = [each for each in archive.infolist() if not each.is_dir() and bare(each.filename)]
+    if not 0 < len(found) <= MOST_MEMBERS:
+        upload.note(name, text("it holds {count} files; give the seven alone", count=len(found)))
+        return
+    for each in found:
+        with archive.open(each) as file:
+            yield bare(each.filename), file.read(files.MOST_BYTES + 1), files.MOST_BYTES
+
+
+def take(upload: Upload, name: str, content: bytes, most: int) -> None:
+    """Keeps one of the seven files, as an import takes it, or a file of columns; all else is to be a workbook."""
+    first, is_columns = next(files.records(content[:1 << 12]), None), name.lower().endswith(".toml")
+    reasons = [
+        (not content.strip(), text("it is empty: save it once more, then bring it again")),
+        (name.lower().endswith(NO_TABLE), text("it is no table: bring what a spreadsheet saves as .xlsx, .ods or CSV")),
+        (is_columns and upload.given is not None,
+         text("another file says already what headers mean: bring one alone")),
+        (content.startswith(backups.OFFICE), text("it is an office: the page Office takes a backup back")),
+        (len(content) > most, text("it has more than {most} bytes: split it", most=most)),
+        ((name, content) in upload.books, text("it is there twice, and is taken once"))]
+    if why := next((why for is_so, why in reasons if is_so), None):
+        upload.note(name, why)
+    elif is_columns:
+        upload.given, way = read_columns(name, content)
+        upload.way = upload.way._replace(words=way.words, dates=upload.way.dates or way.dates)
+        upload.note(name, text("what it says of headers and words holds for the workbooks that come with it"))
+    elif kind := next((kind for kind in files.HEADERS if files.is_header(kind, first)), None):
+        upload.take(kind, content, name)
+    else:
+        upload.books.append((name[-MOST_NAME:], content))
+
+
+def read_books(upload: Upload) -> None:
+    """Reads the books together by the rules of `office read`, beside the office and the files that are taken as they
+    are. Where no line is a mistake their rows are taken as files, too."""
+    if not (book := together(upload)).sheets:
+        return
+    brought = {kind: [row.fields for row in below_header(content)
+                      if len(row.fields) == len(files.HEADERS[kind]) and all(map(files.is_utf_8, row.fields))]
+               for kind, content in upload.texts.items()}
+    known, there = mistakes.Known(view().reading.rows), {folded(sheet.name) for sheet in book.sheets}
+    for kind, rows in brought.items():
+        known.take(kind, rows)
+    names = [sheet.name for sheet in book.sheets] if upload.hidden == "take" else None
+    leave = [sheet.name for sheet in book.sheets if sheet.hidden and upload.hidden == "leave"]
+    given = {kind: says for kind, says in (upload.given or {}).items()
+             if len(upload.books) == 1 or not says.sheet or folded(says.sheet) in there}
+    days = {code.decode(): day.decode() for code, day, _ in brought.get("sessions", [])}
+    job = tables.Job(known, upload.way, given, names, leave, hidden=upload.hidden, report=upload.report, days=days)
+    try:
+        take_rows(upload, ", ".join(name for name, _ in upload.books), read_book(book, job).records)
+    except Trouble as trouble:
+        upload.note(upload.books[0][0], said(trouble.sentence))
+
+
+def together(upload: Upload) -> Book:
+    """The books as one, which has as many cells as one may have; a note says of each other one why it is left."""
+    whole, room = Book("csv", [], []), MOST_CELLS
+    for name, content in upload.books:
+        try:
+            found = book_of(content, name)
+        except Trouble as trouble:
+            upload.note(name, said(trouble.sentence))
+            continue
+        cells = sum(len(row) for sheet in found.sheets for row in sheet.rows.values())
+        if cells > room:
+            upload.note(name, text("it is too large beside the others: bring it alone"))
+            continue
+        room -= cells
+        names = {sheet.name for sheet in whole.sheets}
+        sheets = [replace(each, name=f"{each.name} ({name})") if each.name in names else each for each in found.sheets]
+        notes = [f"{name}: {note}" for note in found.notes]
+        whole = Book(found.form, [*whole.sheets, *sheets], [*whole.notes, *notes])
+    return whole
+
+
+def take_rows(upload: Upload, name: str, records: Mapping[str, list[Record]]) -> None:
+    """Takes the rows of the sheets where no line is a mistake; else the files know of them, and they are not taken."""
+    wrong = [line for line in upload.report.lines if line.sort == "mistake"]
+    if not records and not any(line.sheet for line in wrong):
+        upload.report = tables.Report()
+        upload.note(name, text("it has no row below the header of one of the seven files: take the empty "
+                               "workbook of the page Files"))
+    elif wrong:
+        upload.rows = {kind: [tuple(map(encoded, each.fields)) for each in found] for kind, found in records.items()}
+    else:
+        upload.is_called_list |= any(is_called_list(each.sheet.name) for each in records.get("entries", []))
+        for kind, found in records.items():
+            upload.take(kind, files.file_of(kind, [each.fields for each in found]), name)
+
+
+def below_header(content: bytes) -> Iterator[files.Record]:
+    return itertools.islice(files.records(content), 1, None)
 
 
 class Looked(NamedTuple):
     """A file that was looked through."""
     faults: list[Mistake]
     notes: list[Mistake]
-    fields: dict[int, list[str]]  # of the rows of these, by line
+    fields: dict[int, list[str]]  # of the rows with faults, by line
     total: int  # of all mistakes
-    cures: int  # that are clear
-    moved: list[str]  # columns that are wrong in every row
     rows: int
-    known: int  # rows that the office has
+    known: int  # rows that are entries of the office, or withdrawn ones
     codes: int  # candidates without an access code, here and in the office
-    asks: bool  # they may be a list of withdrawals or of reinstatements
-    is_over: bool  # these are sessions, and the day of each has passed
 
 
-def looked_through(upload: Upload, alone: bool = False) -> dict[str, Looked]:
-    """The files with their mistakes, beside the office, the files before them, and unless alone other workbooks."""
+def looked_through(upload: Upload) -> dict[str, Looked]:
+    """The files with their mistakes, beside the office, the files before them, and sheets with mistakes."""
     known = mistakes.Known(view().reading.rows)
-    for book in upload.workbooks if not alone else ():
-        for kind, rows in book.rows.items():
-            known.take(kind, rows)
-    return {kind: looked_at(kind, upload, known) for kind in upload.kinds}
+    entries = {*known.entries}, known.withdrawn
+    for kind, rows in upload.rows.items():
+        known.take(kind, rows)
+    return {kind: looked_at(kind, upload.texts[kind], known, entries) for kind in upload.kinds}
 
 
-def looked_at(kind: str, upload: Upload, known: mistakes.Known) -> Looked:
-    """A file beside what is known, which has its rows, too, afterwards."""
-    wrong, notes = mistakes.looked_through(kind, upload.texts[kind], known)
-    faults, rows = list(wrong)[:MOST_CURED], [*below_header(upload.texts[kind])]
-    lines, today = {each.line for each in faults}, desk().office.today().isoformat().encode()
-    days = [row.fields[1] for row in rows if kind == "sessions" and len(row.fields) == len(files.HEADERS[kind])]
-    here = {tuple(map(str.encode, row)) for row in files.rows_of(view().reading.rows, kind)}
-    had = max(sum(row.fields in there for row in rows) for there in (here, known.withdrawn))
-    without = {mistakes.with_zeros(row.fields[0]) for row in rows if kind == "candidates" and row.fields[2:] == (b"",)}
-    return Looked(
-        faults, list(notes)[:MOST_SHOWN], total=wrong.count, cures=sum(each.write != "" for each in faults),
-        fields={row.line: [part.decode("utf-8", "replace") for part in row.fields]
-                for row in rows if row.line in lines},
-        moved=[column for column in files.HEADERS[kind] if wrong.counts[column] == len(rows) > 2],
-        rows=len(rows), known=had, codes=len(without - {row[0] for row in here}),
-        asks=kind == "entries" and rows != [] and (
-            upload.is_called_list or upload.kinds == ["entries"] and 2 * had >= len(rows)),
-        is_over=days != [] and all(files.is_date(day) and day < today for day in days))
+def looked_at(kind: str, content: bytes, known: mistakes.Known, entries: tuple[set[tuple[bytes, ...]], ...]) -> Looked:
+    """A file beside what is known, which has its rows, too, afterwards; and beside the entries of the office."""
+    wrong, notes = mistakes.looked_through(kind, content, known)
+    faults, rows = list(wrong)[:MOST_CURED], [*below_header(content)]
+    lines = {each.line for each in faults}
+    fields = {row.line: [part.decode("utf-8", "replace") for part in row.fields] for row in rows if row.line in lines}
+    had = max(sum(row.fields in found for row in rows) for found in entries)
+    return Looked(faults, list(notes)[:MOST_SHOWN], fields, wrong.count, len(rows), had,
+                  wrong.counts[mistakes.NO_CODE] - wrong.kept)
 
 
-Corrections = dict[int, dict[int, str]]  # by line and place; an empty dict takes the row out
+def asks(upload: Upload, looked: Mapping[str, Looked]) -> bool:
+    """Whether the entries may be a list of withdrawals or of reinstatements: they are called so, or come alone and half
+    of them are there."""
+    found = looked.get("entries")
+    return found is not None and found.rows > 0 and (
+        upload.is_called_list or upload.kinds == ["entries"] and 2 * found.known >= found.rows)
 
 
-def corrections(kind: str, looked: Looked, form: Mapping[str, str]) -> Corrections:
-    """What a form corrects in a file: all clear cures, or what was typed."""
-    wanted: Corrections = {}
-    for each in looked.faults:
+def corrected(kind: str, content: bytes, faults: list[Mistake], form: Form) -> tuple[bytes, int]:
+    """The file with what was typed, or with all clear cures, and how many of its rows are other ones; every other value
+    keeps its bytes."""
+    wrong, rows, others = defaultdict[int, list[Mistake]](list), [files.HEADERS[kind]], 0
+    for each in faults:
+        wrong[each.line].append(each)
+    for record in below_header(content):
+        was = [part.decode("utf-8", "surrogateescape") for part in record.fields]
+        fields = corrected_row(kind, was, wrong[record.line], form)
+        others += fields != was
+        rows += [fields] * (fields != [])
+    return files.written(rows).encode("utf-8", "surrogateescape"), others
+
+
+def corrected_row(kind: str, fields: list[str], faults: list[Mistake], form: Form) -> list[str]:
+    """The values of a row; none where it is left out."""
+    found = [*fields]
+    for each in faults:
         name = f"{kind}:{each.line}:{each.column}"
         if each.column == "row" and form.get(name) == "drop":
-            wanted[each.line] = {}
-        elif each.column in files.HEADERS[kind]:
+            return []
+        if each.column in files.HEADERS[kind]:
             place = files.HEADERS[kind].index(each.column)
-            had = looked.fields[each.line][place]
-            if (value := each.write or had if "all" in form else form.get(name, had)) != had:
-                wanted.setdefault(each.line, {})[place] = value[:MOST_VALUE]
-    return wanted
+            had = fields[place].encode("utf-8", "surrogateescape").decode("utf-8", "replace")  # as the page shows it
+            value = each.write or had if "all" in form else form.get(name, had)
+            found[place] = fields[place] if value == had else value[:MOST_VALUE]
+    return found
 
 
-def corrected(kind: str, content: bytes, wanted: Corrections) -> bytes:
-    """The file with the corrections; every other value keeps its bytes."""
-    rows = [files.HEADERS[kind]]
-    for record in below_header(content):
-        fields = [part.decode("utf-8", "surrogateescape") for part in record.fields]
-        for place, value in wanted.get(record.line, {}).items():
-            fields[place] = value
-        if wanted.get(record.line) != {}:
-            rows.append(fields)
-    return files.written(rows).encode("utf-8", "surrogateescape")
+def choice(name: str, offered: list[str]) -> str:
+    found = request.form.get(name, "")
+    return found if found in offered else abort(400)
 
 
 @pages.get("/files")
@@ -112,37 +293,24 @@ def page() -> str:
 
 @pages.post("/files")
 def upload() -> Response:
-    """Takes what is brought. Entries alone may be a list: their numbers get zeros as `office withdraw --list` gives."""
-    found = taken(request.files.getlist("files"), way_of(request.form))
-    if not (found.texts or found.notes or found.workbooks):
+    way, hidden = Way(choice("dates", DATES), is_command=False), choice("hidden", HIDDEN_ROWS)
+    with at_field(("files.page", {}), "files"):
+        found = taken(request.files.getlist("files"), way, hidden)
+    if not (found.texts or found.notes or found.report.lines):
         return lead("files.page", text("Choose the files first."), "bad")
-    rows = [*below_header(found.texts["entries"])] if found.kinds == ["entries"] else []
-    zeros = {row.line: {0: number.decode()} for row in rows
-             if (number := mistakes.with_zeros(row.fields[0])) != row.fields[0]}
-    if zeros and rows[-1].closed:
-        found.texts["entries"] = corrected("entries", found.texts["entries"], zeros)
-        found.notes.append(many(len(zeros), "{count} number got the zeros in front that were missing.",
-                                "{count} numbers got the zeros in front that were missing."))
     return lead("files.look", key=keep(g.visit.uploads, MOST_UPLOADS, found))
-
-
-def way_of(form: Form) -> Way:
-    dates, hidden = form.get("dates", ""), form.get("hidden", "")
-    is_right = dates in ("", "day-first", "month-first") and hidden in ("", "take", "leave")
-    return Way(dates, is_command=False) if is_right else abort(400)
 
 
 @pages.get("/files/uploaded/<key>")
 def look(key: str) -> str:
-    """An upload with its mistakes; it can be imported where none is left that another file needs."""
+    """An upload with its mistakes; it can be imported where none is left in sheets."""
     found: Upload = g.visit.uploads.get(key) or abort(404)
-    looked = looked_through(found)
-    of_books = sum(book.mistakes for book in found.workbooks)
-    found.mistakes = sum(each.total for each in looked.values()) + of_books + found.broken
-    stands = not found.broken and (
-        not of_books or not any(each.total for each in looked_through(found, alone=True).values()))
-    return render_template("look.html", key=key, upload=found, looked=looked, stands=stands, headers=files.HEADERS,
-                           words=HEADER_WORDS, most=MOST_SHOWN, most_lines=MOST_LINES)
+    looked, of_sheets = looked_through(found), found.report.count("mistake")
+    found.mistakes = sum(each.total for each in looked.values()) + of_sheets
+    lines = [line for line in tables.together(found.report.lines) if line.what != mistakes.NO_CODE]
+    return render_template("look.html", key=key, upload=found, looked=looked, asks=asks(found, looked), lines=lines,
+                           of_sheets=of_sheets, headers=files.HEADERS, words=HEADER_WORDS, most=MOST_SHOWN,
+                           most_lines=MOST_LINES)
 
 
 @pages.post("/files/uploaded/<key>/correct")
@@ -151,34 +319,17 @@ def correct(key: str) -> Response:
     found: Upload = g.visit.uploads.get(key) or abort(404)
     rows = 0
     for kind, looked in looked_through(found).items():
-        if wanted := corrections(kind, looked, request.form):
-            found.texts[kind] = corrected(kind, found.texts[kind], wanted)
-            rows += len(wanted)
-    found.edits += rows
-    said = many(rows, "{count} row is corrected in what was uploaded; your own files are as they were.",
-                "{count} rows are corrected in what was uploaded; your own files are as they were.")
-    return lead("files.look", said, "good" if rows else "bad", key=key)
-
-
-@pages.post("/files/uploaded/<key>/again")
-def again(key: str) -> Response:
-    """Reads a workbook again, with its dates, and its hidden rows and sheets, as the form says."""
-    found: Upload = g.visit.uploads.get(key) or abort(404)
-    place = request.form.get("book", "")
-    if place not in map(str, range(len(found.workbooks))) or found.is_imported:
-        abort(404)
-    way, hidden = way_of(request.form), request.form.get("hidden", "")
-    book = found.workbooks.pop(int(place))
-    found.texts = {kind: content for kind, content in found.texts.items() if kind not in book.kinds}
-    wrong = [other for other in found.workbooks if other.mistakes]  # perhaps for what is read of this one now
-    take_books(found, [*wrong, Book(book.name, book.content, way, hidden)])
-    return lead("files.look", key=key)
+        found.texts[kind], others = corrected(kind, found.texts[kind], looked.faults, request.form)
+        rows += others
+    words = many(rows, "{count} row is corrected in what was uploaded; your own files are as they were.",
+                 "{count} rows are corrected in what was uploaded; your own files are as they were.")
+    return lead("files.look", words, "good" if rows else "bad", key=key)
 
 
 @pages.get("/files/uploaded/<key>/<kind>.csv")
 def download(key: str, kind: str) -> Response:
     found: Upload = g.visit.uploads.get(key) or abort(404)
-    return attached(found.texts[kind], f"{kind}.csv") if kind in found.texts else abort(404)
+    return attached(found.texts.get(kind) or abort(404), f"{kind}.csv")
 
 
 @pages.get("/files/school.xlsx")
@@ -189,29 +340,24 @@ def template() -> Response:
 
 @pages.post("/files/dump")
 def dump() -> Response:
-    return archive("facts", lambda folder: dumping.write_all(view().reading.rows, folder))
+    return archive("facts", partial(dumping.write_all, view().reading.rows))
 
 
 def import_files(form: Form) -> Plan:
     """The imports of an upload in their order, as one change; or its entries withdrawn or reinstated one by one."""
     key = form.get("upload", "")
     upload: Upload = g.visit.uploads.get(key) or abort(404)
+    page: Page = ("files.look", {"key": key})
+    what, done = choice("choice", ["", "enter", *LISTED]), partial(setattr, upload, "is_imported", True)
     if not upload.kinds:
         abort(404)
-    page: Page = ("files.look", {"key": key})
-    if (choice := form.get("choice", "")) in ("withdraw", "reinstate"):
-        return withdraw_list(upload, choice, page)
-    if not choice and any(each.asks for each in looked_through(upload).values()):
+    if what in LISTED:
+        return withdraw_list(upload, what, page, done)
+    if not what and asks(upload, looked_through(upload)):
         raise Wrong(page, choice=text("say what is to become of these entries"))
     texts = upload.texts | with_codes(upload, page, form)
     steps = [Step(("import", kind, f"{kind}.csv"), texts[kind]) for kind in upload.kinds]
-    withdrawn = mistakes.Known(view().reading.rows).withdrawn
-    stay = sum(row.fields in withdrawn for row in below_header(texts.get("entries", b"")))
-    said = [many(stay, "{count} of these entries is withdrawn in the office, and stays so until it is reinstated.",
-                 "{count} of these entries are withdrawn in the office, and stay so until they are reinstated.")
-            ] * (stay > 0)
-    return Plan({"kinds": ", ".join(upload.kinds)}, steps, page, done=partial(setattr, upload, "is_imported", True),
-                look=lambda before, after: [*said, *left_behind(before, after)])
+    return Plan({"kinds": ", ".join(upload.kinds)}, steps, page, done=done)
 
 
 def with_codes(upload: Upload, page: Page, form: Form) -> dict[str, bytes]:
@@ -227,26 +373,26 @@ def with_codes(upload: Upload, page: Page, form: Form) -> dict[str, bytes]:
     return {"candidates": files.file_of("candidates", coded.rows)}
 
 
-def withdraw_list(upload: Upload, choice: str, page: Page) -> Plan:
+def withdraw_list(upload: Upload, what: str, page: Page, done: Callable[[], None]) -> Plan:
     """Withdraws or reinstates the entries of a list one by one. What is no such entry is named and left out."""
     if upload.kinds != ["entries"]:
         raise Wrong(page, choice=text("upload this list alone: what else is here would not be imported"))
     known, lines = mistakes.Known(view().reading.rows), dict[tuple[bytes, ...], int]()
     for record in below_header(upload.texts["entries"]):
         lines.setdefault(record.fields, record.line)
-    fitting = known.entries if choice == "withdraw" else known.withdrawn
-    steps = [Step((choice, *map(bytes.decode, fields))) for fields in lines if fields in fitting]
+    fitting, why = (known.entries, text("it is no entry that counts")) if what == "withdraw" else (
+        known.withdrawn, text("it is no withdrawn entry"))
+    steps = [Step((what, *map(bytes.decode, fields))) for fields in lines if fields in fitting]
     if not 0 < len(steps) <= MOST_LISTED:
         raise Wrong(page, choice=text("this can be done to {count} of the rows; a list has 1 to {most} such",
                                       count=len(steps), most=MOST_LISTED))
-    why = text("it is no entry that counts") if choice == "withdraw" else text("it is no withdrawn entry")
     left = [text("line {line}, {row}, is left out: {why}", line=line, why=why,
                  row=b" ".join(fields).decode("utf-8", "replace"))
             for fields, line in lines.items() if fields not in fitting]
-    left[MOST_SHOWN:] = [text("and {count} more", count=len(left) - MOST_SHOWN)] * (len(left) > MOST_SHOWN)
-    return Plan({"kinds": "entries", "choice": choice, "count": str(len(steps))}, steps, page,
-                command=f"{choice} --list entries.csv", made_for=view().name, look=lambda before, after: left,
-                done=partial(setattr, upload, "is_imported", True))
+    more = [text("and {count} more", count=len(left) - MOST_SHOWN)] * (len(left) > MOST_SHOWN)
+    return Plan({"kinds": "entries", "choice": what, "count": str(len(steps))}, steps, page, done=done,
+                command=f"{what} --list {upload.names[-1]}", made_for=view().name,
+                look=lambda before, after: [*left[:MOST_SHOWN], *more])
 
 
 PLANS["files"] = import_files

@@ -9,7 +9,6 @@ import datetime
 import json
 import pathlib
 import re
-from collections.abc import Mapping
 
 from flask import Flask, current_app, request, url_for
 from markupsafe import Markup, escape
@@ -21,8 +20,6 @@ COMMAND = re.compile("(`[^`]+`)")
 NAMED = re.compile("`office (?P<name>[a-z-]+) ?(?:(?P<number>[0-9]{7}) .*|.*)`")
 PAGES = {"back": "office.page", "init": "season.page", "look": "candidates.find"}  # by the command that does the same
 MOST_LETTERS = 10  # of a name at a desk
-PARTICLES = set("von,van,vom,zu,zum,zur,de,der,den,del,della,di,da,dos,du,le,la,ten,ter,al,el,ben,bin".split(","))
-RIGHT_TO_LEFT = ("ar", "fa", "he", "ur")
 LANGUAGES: dict[str, dict[str, str]] = {
     path.stem: json.loads(path.read_text("utf-8"))
     for path in sorted((pathlib.Path(__file__).parent / "languages").glob("*.json"))}
@@ -41,10 +38,10 @@ def text(english: str, **values: object) -> Markup:
     return found.format(**{name: shown(value) for name, value in values.items()}) if values else found
 
 
-def said(words: str | Said, pages: Mapping[str, Markup] = {}) -> Markup:
-    """What the package says, in the reader's language if the table has it. Commands and values lead to their pages."""
+def said(words: str | Said) -> Markup:
+    """What the package says, in the reader's language if the table has it. Commands lead to their pages."""
     if isinstance(words, Said):
-        return text(words.text, **{name: value_said(value, pages) for name, value in words.values.items()})
+        return text(words.text, **{name: value_said(value) for name, value in words.values.items()})
     if found := LANGUAGES.get(language(), {}).get(words):
         return Markup(found)
     for pattern, other in FORMED.get(language(), ()):
@@ -58,12 +55,10 @@ def link(address: str, value: object) -> Markup:
     return Markup('<a href="{}">{}</a>').format(address, shown(value))
 
 
-def value_said(value: object, pages: Mapping[str, Markup]) -> Markup:
+def value_said(value: object) -> Markup:
     if isinstance(value, list):
-        return Markup(", ").join(value_said(each, pages) for each in value)
-    if isinstance(value, Said):
-        return said(value, pages)
-    return pages.get(str(value)) or shown(value)
+        return Markup(", ").join(map(value_said, value))
+    return said(value) if isinstance(value, Said) else shown(value)
 
 
 def command_said(part: str) -> str:
@@ -105,14 +100,9 @@ def days_until(iso: str) -> int:
 
 
 def short(name: str) -> str:
-    """The surname with its particles, and an initial."""
-    surname, others = parted(plain(name))
-    while others.rpartition(" ")[0] and others.rpartition(" ")[2].lower() in PARTICLES:
-        others, _, particle = others.rpartition(" ")
-        surname = f"{particle} {surname}"
-    initial = next((letter for letter in others if letter.isalnum()), "")
-    found = f"{surname or '?'} {initial}".rstrip()
-    return found if len(found) <= MOST_LETTERS else found[:MOST_LETTERS - 1] + "…"
+    """The surname, as far as a desk of a picture has room."""
+    surname, _ = parted(plain(name))
+    return surname if len(surname) <= MOST_LETTERS else surname[:MOST_LETTERS - 1] + "…"
 
 
 def prepare(app: Flask) -> None:

@@ -22,12 +22,10 @@ from cells import Cells
 from moments import at_one_time, of_candidate
 
 from exam_desk import overlaps, reasons, telling  # beside the tests' folder
-from exam_desk.facts import session_row
 from exam_desk.lists import fold, name_order
 from exam_desk.office import Office
 from exam_desk.reading import Reading
-from exam_desk.sheets import papers, printing, slips, texts
-from exam_desk.sheets.session_page import Page
+from exam_desk.sheets import papers, slips, texts
 from exam_desk.words import FEATURES, plain
 
 TODAY = datetime.date(2027, 5, 1)
@@ -208,7 +206,7 @@ class RandomOffice:
             papers, halls = telling.titles_of(reading)
             self.titles = papers | halls  # no hall has the code of a paper here
             for session in self.sessions:
-                for look in (self.doors, self.by_name, self.counts, self.session_page, self.printed, self.reasons):
+                for look in (self.doors, self.by_name, self.counts, self.reasons):
                     look(reading, session)
             self.slips(reading)
             self.summary(reading)
@@ -226,7 +224,7 @@ class RandomOffice:
 
     def doors(self, reading, session):
         tables = collections.defaultdict(list)
-        for table in Cells(page := papers.doors(reading, session)).tables:
+        for table in Cells(page := papers.page(reading, "doors", session)).tables:
             tables[re.search(r"\|([A-Z0-9]+), page [0-9]+ of [0-9]+\|", table[0][0])[1]].append(table)
         halls = sorted({seat.hall for seat in self.now[session].values()} - {"-"})
         equal([*tables], halls, "halls", page)
@@ -267,10 +265,10 @@ class RandomOffice:
                  for number, seat in seats]
         wanted = [[name, *(["ask the office", ""] if seat.hall == "-" else [seat.hall, seat.desk])]
                   for name, seat in shown]
-        equal(Cells(page := papers.board(reading, session)).rows[2:], wanted, "board", page)
+        equal(Cells(page := papers.page(reading, "board", session)).rows[2:], wanted, "board", page)
         posters = [[[name, seat.desk] for name, seat in shown if seat.hall == hall]
                    for hall in sorted({seat.hall for _, seat in seats} - {"-"})]
-        sheets = (page := papers.poster(reading, session)).split("<div class=sheet>")[1:]
+        sheets = (page := papers.page(reading, "poster", session)).split("<div class=sheet>")[1:]
         equal([Cells(sheet).tables[1][1:] for sheet in sheets], posters, "poster", page)
         self.compared["namesakes"] += sum(names[fold(seat.name)] > 1 for _, seat in seats)
 
@@ -284,51 +282,17 @@ class RandomOffice:
         wanted = [[self.titled(hall) if hall != "-" else "no desk", self.titled(paper), str(copies[key]), last[key], "",
                    ""] for key in sorted(copies) for _, hall, paper in [key]]
         wanted_sums = [[self.titled(paper), str(total[paper]), last_of_all[paper]] for paper in sorted(total)]
-        tables = Cells(page := papers.counts(reading, session)).tables
+        tables = Cells(page := papers.page(reading, "counts", session)).tables
         equal((tables[0][2:], tables[1][2:]), (wanted, wanted_sums), "counts", page)
 
     def titled(self, code):
         return f"{plain(self.titles[code])} ({code})"
 
-    def session_page(self, reading, session):
-        found = Page(reading, session)
-        page = found.document()
-        assert not found.faults, found.faults
-        assert not Cells(page).strange, Cells(page).strange
-        seats = self.now[session]
-        seated = [[table for table in Cells(f"<table>{part}").rows if len(table) == 5][1:]
-                  for part in part_of(page, "seats", "clashes").split("<section class=hall")[1:]]
-        wanted = [[[seat.desk, number, plain(seat.name), seat.paper, seat.finish] for number, seat in
-                   sorted(seats.items(), key=lambda each: int(each[1].desk.replace("-", "0")))
-                   if seat.hall == opening.hall]
-                  for opening in found.openings]
-        equal(seated, wanted, "session page", page)
-        equal(Cells(part_of(page, "clashes", "appeals")).rows[1:],
-              [[number, plain(seats[number].name), sits, clash] for number, sits, clash in self.clashes(session)],
-              "clashes", page)
-        rows = Cells(page[page.index("<section id=appeals>"):]).rows[1:]
-        register = [line.split(None, 5) for line in self.sheet(self.path, "appeals", session)[2:]]
-        equal([[number, ref, kind, state, lodged, subject] for number, _, ref, kind, subject, lodged, state in rows],
-              register, "appeals", page)
-        sheet = reasons.read_sheet("\n".join([*self.sheet(self.path, "shortage", session), ""]))
-        unseated = sum(seat.hall == "-" for seat in seats.values())
-        assert (f"{len(seats):,} candidate" in page and sheet.unseated == unseated
-                and (f"+ {sheet.unseated} unseated</p>" in page) == (sheet.unseated > 0)), "shortage"
-
-    def printed(self, reading, session):
-        halls = reading.rows.execute("SELECT hall FROM opening WHERE session = ? ORDER BY hall", [session])
-        names = [("door-list", session, hall) for hall, in halls]
-        names += [("attendance", session, paper) for paper, of in sorted(self.papers.items()) if of == session]
-        names.append(("clashes", session))
-        wanted = {name: lines for name in names
-                  if len(lines := self.sheet(self.path, *name)) > 2 or name[0] == "clashes"}
-        found = printing.written(reading, session_row(reading.rows, session))
-        equal(list(found.items()), list(wanted.items()), "print-session", found)
-
     def reasons(self, reading, session):
         """Nobody who has no desk suits a hall with a free one; the program's sheet adds up."""
-        found, sheet = reasons.Reasons(reading, session), reasons.read_sheet(reading.sheet("shortage", session))
+        found, sheet = reasons.compared(reading, session)
         text = found.text()
+        assert not [*found.faults(sheet)], [*found.faults(sheet)]
         equal(sorted({*re.findall(r"\b[0-9]{7}\b", text)}) if "by what they" in text else
               [line[:7] for line in text.split("\n") if line[:1].isdigit()],
               [number for number, seat in sorted(self.now[session].items()) if seat.hall == "-"], "why", text)
@@ -422,11 +386,6 @@ class RandomOffice:
         self.compared["changes"] += len(wanted)
         for row in rows:
             equal(row[0], "yes" if row[6:9] != row[12:15] or not row[7] or not row[13] or row[-1] else "no", "tell", row)
-
-
-def part_of(page, first, behind):
-    """The page of a session from one of its sections to another."""
-    return page[page.index(f"<section id={first}>"):page.index(f"<section id={behind}>")]
 
 
 def equal(found, wanted, what, page):

@@ -13,6 +13,7 @@ sys.path.insert(0, str(DESK))
 from exam_desk import changing, lodging, refusals  # noqa: E402
 from exam_desk.office import Office  # noqa: E402
 from exam_desk.running import Ran  # noqa: E402
+from exam_desk.workbook.values import Way  # noqa: E402
 from exam_web import application, desk, guard, proposals, uploads, wording  # noqa: E402
 
 WHO, MONDAY = {"number": "0001051"}, {"session": "MON-AM"}
@@ -45,7 +46,7 @@ class Browser:
         self.visit = guard.Visit("ab", "mark")
         self.app.extensions["guard"].visits[guard.digest("secret")] = self.visit
         self.client.set_cookie("localhost", "desk", "secret")
-        self.visit.uploads["files"] = uploads.Upload({"halls": b"hall,title,features\nR20,x,-\n",
+        self.visit.uploads["files"] = uploads.Upload(Way(), texts={"halls": b"hall,title,features\nR20,x,-\n",
                                                       "entries": b"number,paper\n0001051,CH-1\n"})
 
     def post(self, path, values):
@@ -129,7 +130,6 @@ def main():
         for number in numbers:
             refused(browser, what, number)
         refused_late(browser, what)
-    browser.app.extensions["desk"].close()
     print("\n".join([*wrong, f"{len(FORMS)} plans, {len(tries)} looks, {len(wrong)} bad"]))
 
 

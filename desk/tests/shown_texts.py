@@ -18,11 +18,10 @@ from jinja2 import nodes
 
 DESK = pathlib.Path(__file__).resolve().parent.parent
 sys.path.insert(0, str(DESK))
-from exam_desk import (appeals, backups, copies, effects, files, keeping, logbook, mistakes, notebook, reasons,  # noqa: E402
+from exam_desk import (appeals, backups, copies, files, keeping, logbook, mistakes, notebook, reasons,  # noqa: E402
                        refusals, second_sitting, typed, words)
-from exam_desk.sheets import slips  # noqa: E402
 from exam_desk.workbook import cells, opening  # noqa: E402
-from exam_web import application, desk, proposals, session, wording  # noqa: E402
+from exam_web import proposals, wording  # noqa: E402
 
 DAYS = [datetime.date(2027, 3, day) for day in range(1, 8)]
 MONTHS = [datetime.date(2027, month, 1) for month in range(1, 13)]
@@ -31,7 +30,7 @@ RAISED = [call.args[0].value for path in (DESK / "exam_desk").glob("*.py")  # se
           for call in ast.walk(ast.parse(path.read_text("utf-8"))) if isinstance(call, ast.Call)
           and ast.unparse(call.func) == "Trouble" and isinstance(call.args[0], ast.Constant)]
 OTHERWISE = wording.LANGUAGES["en"].keys() & {*RAISED, keeping.RUNS}  # said as no command says them
-SAID = [*refusals.SENTENCES.values(), *refusals.OTHER.values(), refusals.CAUSES, *OTHERWISE]
+SAID = [*refusals.SENTENCES.values(), *refusals.OTHER.values(), *OTHERWISE]
 CURES = [cure.removesuffix(typed.OF_A_SHEET) for cure in mistakes.CURES.values()]
 OPENED = [cells.PASSWORD, opening.NO_UTF_8, opening.NO_WORKBOOK, opening.OLD_FORM,  # why a file is not read
           backups.NO_OFFICE, backups.SEVERAL, backups.ALONE, backups.BROKEN, backups.TOO_LARGE]
@@ -62,11 +61,9 @@ FORMED = [*mistakes.CURES.values(), mistakes.EMPTY_ROW, files.NO_UTF_8, *(
           if re.search(r"[a-z]{2,}\b.* |.* .*\b[a-z]{2,}", each) and not OF_COMMANDS.search(each)),
           *filter(OF_KEEP.search, sentences(keeping)), "Address already in use",
           *filter(re.compile(r"^line |^a (row|\{0}) has|digits$|above$").search, sentences(files)),
-          *filter(re.compile("^the file has|^in no group,").search, sentences(slips)),
           *filter(re.compile(r"^session \{|^[^;]+ [^;]+; nothing is changed$").search, sentences(second_sitting)),
           *filter(re.compile("^nothing is noted|nobody can have been").search, sentences(notebook)),
           *filter(re.compile("is no candidate number").search, sentences(typed)),
-          *filter(re.compile("^NOTE: (noted|still)").search, sentences(effects)),
           "NOTE: who only did not come stays entered: `office absent {0} {1}` notes it",
           *(f"{{0}} {word}" for word in ("number", "numbers", "candidate", "candidates", "desk", "desks", "(new)")),
           "{0} and {1} more"]
@@ -74,17 +71,15 @@ REASONS = [*(f"no {name}" for name in words.FEATURES), reasons.CLOSES + "{0}", "
            "but {0} of {1} desks are taken"]  # why a hall does not suit, parted at commas
 OWN = [*REASONS, proposals.OTHER_OFFICE, proposals.WRONG_DESK, proposals.COMPARING, proposals.LODGING]
 TABLES = {  # by what stands in the call
-    "word": session.RUNNING.values(),
-    "title": session.SHEETS.values(),
     "appeals.KINDS[row.kind]": appeals.KINDS.values(), "appeals.STATES[row.state]": appeals.STATES.values(),
-    "kind": appeals.KINDS.values(), "PROBLEMS[fault.code]": application.PROBLEMS.values(),
-    "str(stage)": [desk.COPYING, desk.COUNTING], "mistakes.CURES[column].removesuffix(typed.OF_A_SHEET)": CURES,
+    "kind": appeals.KINDS.values(),
+    "mistakes.CURES[column].removesuffix(typed.OF_A_SHEET)": CURES,
     "v.kind": appeals.KINDS.values(), "status": [logbook.BEGINS, logbook.STEP],
     "f'{date:%a}'": [f"{date:%a}" for date in DAYS], "f'{date:%b}'": [f"{date:%b}" for date in MONTHS],
 }
 SENTENCE = re.compile(r"[a-z]{2,} [a-z]{2,}.* [a-z]{2,}")
 SQL = re.compile(r"\s*(SELECT|FROM|WHERE|ORDER|JOIN|AND|GROUP|HAVING)\b|.*\b(SELECT|FROM entry|JOIN)\b")
-OF_STRANGERS = {"guard.py", "serving.py"}  # they speak to who is not in, and to the terminal
+OF_STRANGERS = {"guard.py"}  # it speaks to who is not in
 PLAIN = {"examoffice", "csv", "aria", "invalid", "true", "describedby", "fault", "id"}  # no words of a language
 NO_TEXTS = {"the form has all values"}  # of an assertion
 ATTRIBUTES = {"title", "placeholder", "aria-label", "alt", "data-busy", "data-working", "data-nothing"}
@@ -109,6 +104,8 @@ class Modules(ast.NodeVisitor):
 
     def visit_Call(self, call):
         name = call.func.id if isinstance(call.func, ast.Name) else ""
+        if name == "Trouble" and self.path.name == "application.py":  # the terminal says it
+            return
         if name not in ("text", "many", "said"):
             self.generic_visit(call)
             return

@@ -113,9 +113,8 @@ class Asking(unittest.TestCase):
                 thread.start()
                 server = asking.Server(os.getpid(), str(listener.getsockname()[1]))
                 with mock.patch("exam_desk.asking.refuse_stranger", side_effect=lambda *_: taken or thread.join()):
-                    connection = asking.sent(server, REQUEST * 100, 30)
+                    self.assertEqual(asking.answer(server, REQUEST * 100, 30), ANSWER, taken)
                 thread.join()
-                self.assertEqual(asking.received(connection), ANSWER, taken)
 
     def test_each_answer_must_be_whole_and_good(self):
         """Where one is not, no connection to those that are asked after it stays open."""

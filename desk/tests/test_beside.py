@@ -111,7 +111,7 @@ class Strangers(Beside):
     def test_an_office_that_root_has_brought(self):
         os.chown(self.folder, NOBODY, NOBODY)
         with (mock.patch("os.geteuid", return_value=NOBODY),
-              self.assertRaisesRegex(beside.Strange, "belongs to root: give it to its user, as root: `chown -R nobody: off")):
+              self.assertRaisesRegex(beside.Strange, "belongs to root: .*is given to its user by `chown -R USER: off")):
             beside.make_folder(self.path)
 
     def test_a_user_without_a_name(self):

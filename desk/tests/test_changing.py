@@ -364,7 +364,7 @@ class Killed(Changing):
             self.assertEqual(done.returncode, -signal.SIGKILL)
             said = self.run_office("reinstate", "0001000", "MA-1").stderr
             if kind in ("sessions", "openings"):  # the files before halls change nothing
-                self.assertIn({"sessions": "facts and seats are as before it: give it again", "openings": "puts it back"}[kind], said)
+                self.assertIn({"sessions": "the office is as before: give it again", "openings": "puts it back"}[kind], said)
             self.assertRegex(said, r"^office: `take facts` of \S+ \S+ was broken off")
             if self.state() != before:
                 self.assertRegex(said, "`office back` lists the copy of .*, before take facts, and puts it back\n")
@@ -398,8 +398,8 @@ class Killed(Changing):
             changing.go_back(self.value, ["back", "1"], f"{copy}-gone", lambda lines: True)
         for copy in "", "gone":
             found = logbook.Unfinished("today", "back 1", copy)
-            self.assertEqual(changing.way_on(self.value, found),
-                             "`back 1` of today was broken off, and has no copy: look whether it is done")
+            self.assertEqual(changing.way_on(self.value, found), "`back 1` of today was broken off, and there is no copy "
+                                                                 "from before it: look what is done")
 
     def test_a_change_that_is_under_way_is_not_broken_off(self):
         going, may_end = (os.path.join(self.folder, name) for name in ("going", "may_end"))
@@ -453,7 +453,7 @@ class Killed(Changing):
     def test_a_single_change_that_is_killed_before_it_is_done(self):
         path = self.write("late.csv", "number,paper\n0001000,FR\n")
         self.broken_off("import", "entries", path, before="import entries")
-        said = f"^office: `import entries {path} for 0001000 FR` of .* was broken off; facts and seats are as before it: give it again\n"
+        said = f"^office: `import entries {path} for 0001000 FR` of .* was broken off, and the office is as before: give it again\n"
         for words in (("look", "1000"), ("withdraw", "0001000", "MA-1")):
             self.assertRegex(self.run_office(*words).stderr, said)
 
@@ -467,8 +467,8 @@ class Killed(Changing):
         self.change(APPEAL, "HA1", 1)
         program = self.program(f'[ "$2 $5" = "{self.path} decide" ] && {sample.built_program()} "$@" && kill -9 $PPID && exit 9')
         self.run_office("decide", "0001051", "HA1", "refused", "no", EXAMOFFICE=program)
-        self.assertRegex(self.run_office("look", "1000").stderr, "^office: `decide 0001051 HA1 refused` of .* was broken off; "
-                         "facts and seats are as before it: give it again\n")
+        self.assertRegex(self.run_office("look", "1000").stderr, "^office: `decide 0001051 HA1 refused` of .* was broken off, "
+                                                                "and the office is as before: give it again\n")
 
     def test_at_any_time(self):
         self.assertEqual(kill_often(self, ["take", self.facts(), "--yes"], KILLS, SEED).total(), KILLS)

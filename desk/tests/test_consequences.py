@@ -6,9 +6,9 @@ import unittest
 from unittest import mock
 
 import sample
-from exam_desk import changing, copies, effects, logbook, telling
+from exam_desk import changing, copies, effects, telling
 from exam_desk.office import Office
-from exam_desk.reading import Sitting
+from exam_desk.reading import Person, Sitting
 from exam_desk.sheets import papers
 
 SITTING = Sitting("S1", "2027-06-01", "09:00", "MA-1", "10:00", (), 0, "A", 1)
@@ -20,7 +20,15 @@ def change(old=SITTING, new=SITTING, number="0000001", session="S1", name="Ada",
 
 
 def brief(changes, clashing=()):
-    return effects.brief(effects.grouped(telling.by_kind(changes), {effects.CLASHES: list(clashing)}))
+    return effects.headlines(met(changes, clashing))
+
+
+def met(changes, clashing=()):
+    """Whom these changes meet, and these new clashes."""
+    found = effects.Effects.__new__(effects.Effects)
+    found.kinds, found.clashes, found.overlaps, found.over = telling.by_kind(changes), clashing, [], {}
+    found.out_of_date, found.codes = {}, []
+    return found.met
 
 
 class Kinds(unittest.TestCase):
@@ -42,15 +50,16 @@ class Kinds(unittest.TestCase):
         self.assertEqual(change(old_name="Eda").kind(), "name")
         self.assertEqual(change(old_name="Eda").what(), "Eda -> Ada")
 
-    def test_at_most_five_lines_the_gravest_first(self):
+    def test_the_gravest_first(self):
         news = [SITTING._replace(desk=2), SITTING._replace(start="09:10"), SITTING._replace(hall="B"),
                 SITTING._replace(paper="SP-1"), SITTING._replace(hall=None, desk=None), None]
         changes = [change(new=new, number=f"{place:07}") for place, new in enumerate(news)]
-        clash = effects.Met("S1", "0000003 Ada", "does not sit MA-1")
+        clash = "S1", Person("0000003", "Ada", ""), ["MA-1"]
         self.assertEqual(brief(changes, [clash]), [
             "1 loses the desk: S1 0000004 Ada", "1 has a new clash: S1 0000003 Ada",
             "1 sits another paper: S1 0000003 Ada", "1 moves to another hall: S1 0000002 Ada",
-            "1 sits at another time, 1 leaves a session, 1 has another desk in the same hall"])
+            "1 sits at another time: S1 0000001 Ada", "1 leaves a session: S1 0000005 Ada",
+            "1 has another desk in the same hall: S1 0000000 Ada"])
         self.assertEqual(brief([]), [])
 
     def test_many_are_counted_by_session(self):
@@ -64,7 +73,7 @@ class Kinds(unittest.TestCase):
         changes = [change(old_name="Eda", number=f"000000{number}") for number in range(5)]
         self.assertEqual(brief(changes), ["5 have other names: 0000000 Ada; 0000001 Ada; 0000002 Ada and 2 more"])
         later = [change(new=SITTING._replace(finish="10:15"), session=session) for session in ("S1", "S2", "S3", "S4")]
-        self.assertEqual(brief(later), ["1 sits at another time: 0000001 Ada in 4 sessions"])
+        self.assertEqual(brief(later), ["1 sits at another time (4 sessions): 1 in S1, 1 in S2, 1 in S3 and 1 more"])
 
     def test_people_are_counted_and_sittings_beside_them(self):
         later = SITTING._replace(finish="10:15")
@@ -72,13 +81,13 @@ class Kinds(unittest.TestCase):
                    for number, sessions in ((1, 3), (2, 1)) for session in range(sessions)]
         desk = [change(new=SITTING._replace(desk=2), number=number, session="S9") for number in ("0000001", "0000007")]
         self.assertEqual(brief(changes), ["2 sit at other times (4 sittings): 2 in S0, 1 in S1, 1 in S2"])
-        self.assertEqual(brief([*changes[:3]]), ["1 sits at another time: 0000001 Ada in 3 sessions"])
+        self.assertEqual(brief([*changes[:2]]), ["1 sits at another time (2 sessions): S0 0000001 Ada; S1 0000001 Ada"])
         lines = telling.text([*changes, *desk]).split("\n")
         self.assertEqual([line for line in lines if not line.startswith(("!", " "))], [
             "2 sit at other times (4 sittings):", "2 have other desks in the same hall:",
             "2 to tell (4 sittings), 1 with another desk only", ""])
         self.assertTrue(telling.text(changes[:3]).startswith("1 sits at another time (3 sessions):\n"))
-        [title, *_] = effects.lines(effects.grouped(telling.by_kind(changes), {}), 1)
+        [title, *_] = effects.lines(met(changes), 1)
         self.assertEqual(title, "2 sit at other times (4 sittings)")
         with mock.patch.object(papers, "told", lambda *_: [""]):
             page = papers.changes(mock.MagicMock(), mock.MagicMock(office=self.office), changes, "Since 1")
@@ -107,40 +116,32 @@ class Told(sample.SampleSchool):
         changes = self.office("changes", "1").split("\n")
         lost = [line for line in changes if line.endswith(" -> no desk")]
         self.assertEqual(lines[0], f"{len(lost)} lose their desks: {len(lost)} in MON-AM")
-        self.assertEqual(lines[-2:], [LAST, "NOTE: still open: GYM in MON-PM, TUE-AM"])
+        self.assertEqual(lines[-1], LAST)
         back = self.told("back", "1", "--yes")
         self.assertIn(f"{len(lost)} get desks", "\n".join(back))
 
     def test_a_cure_that_leaves_some_without_a_desk(self):
         """Two of 60 have none before; GYM has 24 desks. The same opening for less time helps nobody."""
-        self.assertIn("26 without a desk: 26 in MON-AM", self.told("close-hall", "MON-AM", "GYM"))
+        self.assertIn("26 without a desk: 26 in MON-AM (before 2)", self.told("close-hall", "MON-AM", "GYM"))
         lines = self.told("open-hall", "MON-AM", "R14", "2", "18:00")
-        self.assertEqual(lines[-2:], ["24 without a desk: 24 in MON-AM", LAST])
+        self.assertEqual(lines[-2:], ["24 without a desk: 24 in MON-AM (before 26)", LAST])
         self.assertNotIn("without a desk", "".join(self.told("open-hall", "MON-AM", "R14", "2", "17:00")))
-        self.assertIn("2 without a desk: 2 in MON-AM", self.told("open-hall", "MON-AM", "GYM", "24", "18:00"))
+        self.assertIn("2 without a desk: 2 in MON-AM (before 24)", self.told("open-hall", "MON-AM", "GYM", "24", "18:00"))
         has_desk = self.told("withdraw", "0001051", "PH-1")
         self.assertNotIn("without a desk", "".join(has_desk))
-
-    def test_a_hall_that_a_copy_does_not_have_open(self):
-        """TUE-AM has R14 open. Whoever takes the opening in MON-AM back knows that it is; whoever closes it may not."""
-        self.office("open-hall", "MON-AM", "R14", "2", "18:00")
-        self.assertNotIn("still open", self.office("what-if", "back", "1"))
-        self.assertNotIn("still open", "".join(self.told("back", "1", "--yes")))
-        self.office("back", "1", "--yes")
-        self.assertEqual(self.told("close-hall", "MON-AM", "R14")[-1], "NOTE: still open: R14 in TUE-AM")
 
     def test_a_late_entry_makes_a_candidate_miss_a_paper(self):
         """0001000 sits MA-1; LAT comes first by its code."""
         lines = self.told("import", "entries", self.write("e.csv", "number,paper\n0001000,LAT\n"))
         self.assertIn("1 has a new clash: MON-AM 0001000 Ada Lin", lines[:2])
         self.assertIn("1 sits another paper: MON-AM 0001000 Ada Lin", lines[:3])
-        self.assertEqual(lines[-1], "`office changes 1; office clashes MON-AM` lists them")
+        self.assertEqual(lines[-1], "`office changes 1; office look --clashes` lists them")
         self.assertRegex(self.office("clashes", "MON-AM"), "0001000 sits LAT +clash MA-1")
 
     def test_a_clash_where_nobody_sits_otherwise(self):
         """MA-2 comes behind MA-1."""
         lines = self.told("import", "entries", self.write("e.csv", "number,paper\n0001000,MA-2\n"))
-        self.assertEqual(lines, ["1 has a new clash: MON-AM 0001000 Ada Lin", "`office clashes MON-AM` lists them"])
+        self.assertEqual(lines, ["1 has a new clash: MON-AM 0001000 Ada Lin", "`office look --clashes` lists them"])
         self.assertEqual(self.office("changes", "1", "--tell"),
                          "1 has other clashes:\n! MON-AM 0001000 Ada Lin: misses MA-2\n"
                          "1 to tell, 0 with another desk only\n")
@@ -155,14 +156,6 @@ class Told(sample.SampleSchool):
         self.told("withdraw", "0001306", "MA-2")
         self.assertIn("1 has a new clash\n  MON-AM 0001306 Sami Nagy: does not sit MA-2\n",
                       self.office("what-if", "back", "2"))
-
-    def test_what_lists_those_of_many_sessions(self):
-        """Of two sessions each has its own command; from three on one lists all."""
-        met = {"clashes": [effects.Met(code, "0001000 Ada Lin", "") for code in ("S1", "S2", "S2")]}
-        self.assertEqual(effects.listing(met, 1), ["`office clashes S1; office clashes S2` lists them"])
-        met["clashes"].append(effects.Met("S3", "0001000 Ada Lin", ""))
-        self.assertEqual(effects.listing({**met, "printed": met["clashes"], "moves": []}, 2),
-                         ["`office changes 2; office look --clashes; office printed` lists them"])
 
     def test_who_is_not_touched_is_not_spoken_of(self):
         same = str(self.examples / "entries.csv")
@@ -181,23 +174,23 @@ class Told(sample.SampleSchool):
             lines = self.told("import", kind, self.write(f"{kind}.csv", text))
             if kind != "entries":
                 self.assertEqual(lines, [], kind)
-        self.assertEqual(lines, ["6 without a desk: 2 in MON-AM, 2 in MON-PM, 2 in TUE-AM; "
-                                 "`office summary` has all sessions",
-                                 "4 have new clashes: 4 in MON-AM", "`office clashes MON-AM` lists them"])
+        self.assertEqual(lines, ["4 have new clashes: 4 in MON-AM", "6 without a desk: 2 in MON-AM, 2 in MON-PM, 2 in TUE-AM",
+                                 "`office look --clashes` lists them"])
 
     def test_another_access_code(self):
         """Of one candidate with the name, of many with the number; and where a copy is put back it is the lost one."""
         rows = [row.split(",") for row in (self.examples / "candidates.csv").read_text("utf-8").split("\n")[:6]]
-        lost = "; a slip with the old code opens nothing"
         one = self.write("one.csv", "\n".join([",".join(rows[0]), f"{rows[1][0]},{rows[1][1]},NEW{rows[1][2]}"]))
-        said = f"1 has another access code: {rows[1][0]} {rows[1][1]}{lost}"
+        said = f"1 has another access code: {rows[1][0]} {rows[1][1]}"
         self.assertEqual(self.told("import", "candidates", one), [said])
         self.assertEqual(self.told("import", "candidates", one), [])
         self.assertEqual(self.told("back", "1", "--yes"), [said])
         others = [",".join(rows[0]), *(f"{number},{name},NEW{code}" for number, name, code in rows[1:])]
         several = self.write("candidates.csv", "\n".join(others))
-        self.assertIn(f"5 have other access codes{lost}\n", self.office("what-if", "import", "candidates", several))
-        self.assertEqual(self.told("import", "candidates", several), [f"5 have other access codes{lost}"])
+        self.assertRegex(self.office("what-if", "import", "candidates", several),
+                         "\n5 have other access codes\n  .*: a slip with the old code opens nothing\n")
+        [line] = self.told("import", "candidates", several)
+        self.assertTrue(line.startswith("5 have other access codes: 00010") and line.endswith(" and 2 more"), line)
 
     def test_printed_papers_are_out_of_date(self):
         """Where a desk is another by the change than on paper; in no other hall, and only if somebody noted them."""
@@ -211,7 +204,7 @@ class Told(sample.SampleSchool):
         self.assertIn(f"{said}\n  MON-AM (doors, signatures, poster, cards of AULA; board, counts, slips): afterwards `office printed MON-AM --look`\n", would)
         lines = self.told(*words)
         self.assertEqual(lines[0], f"{said}: MON-AM (doors, signatures, poster, cards of AULA; board, counts, slips)")
-        self.assertEqual(lines[-1], "`office changes 1; office printed MON-AM --look` lists them")
+        self.assertEqual(lines[-1], "`office changes 1; office printed` lists them")
         self.assertIn("to print again: doors, signatures, poster, cards of AULA; board, counts, slips\n", self.office("printed", "MON-AM", "--look"))
         self.assertIn("TUE-AM (doors, signatures, poster, cards of AULA; board, slips)", "\n".join(self.told("name", "0001306", "Another Name")))
         self.assertNotIn("printed", "\n".join(self.told("back", "2", "--yes")))  # all is as on paper again
@@ -228,19 +221,20 @@ class Told(sample.SampleSchool):
         """0001153 needs a screen, and sits in a hall that has one; R12 is reserved, and nobody sits there."""
         self.office("printed", "MON-AM")
         said = "1 session has printed papers that are out of date: MON-AM"
-        listing = "`office printed MON-AM --look` lists them"
+        listing = "`office printed` lists them"
         needs = self.write("arrangements.csv", "number,needs,extra\n0001153,-,25\n")
         row = "1 value of rows changed: 0001153 needs screen -> -"
         would = self.office("what-if", "import", "arrangements", needs)
         self.assertIn(f"\n{row}\n", would)
         self.assertIn("\n1 loses a need (3 sessions)\n  MON-AM 0001153 Jana Roe: screen\n", would)
         self.assertEqual(self.told("import", "arrangements", needs), [
-            "1 loses a need: 0001153 Jana Roe in 3 sessions", f"{said} (doors of LIB; slips)", row,
-            "`office changes 1; office printed MON-AM --look` lists them"])
+            "1 loses a need (3 sessions): MON-AM 0001153 Jana Roe; MON-PM 0001153 Jana Roe; TUE-AM 0001153 Jana Roe",
+            f"{said} (doors of LIB; slips)", row, "`office changes 1; office printed` lists them"])
         title = self.write("halls.csv", "hall,title,features\nGYM,Sports hall,step-free\n")
-        self.assertIn("\n1 value of rows changed: GYM title Gymnasium -> Sports hall\n",
-                      self.office("what-if", "import", "halls", title))
-        self.assertEqual(self.told("import", "halls", title), [f"{said} (doors, signatures, poster, cards of GYM; board, counts, slips)", listing])
+        row = "1 value of rows changed: GYM title Gymnasium -> Sports hall"
+        self.assertIn(f"\n{row}\n", self.office("what-if", "import", "halls", title))
+        self.assertEqual(self.told("import", "halls", title), [
+            f"{said} (doors, signatures, poster, cards of GYM; board, counts, slips)", row, listing])
         self.assertEqual(self.told("open-hall", "MON-AM", "R12", "2", "14:00")[0],
                          "1 value of rows changed: MON-AM R12 reserved yes -> no")
 
@@ -248,7 +242,7 @@ class Told(sample.SampleSchool):
         """0001085 has step-free by the import, and the hall GYM, which has it, before and after."""
         self.office("lodge", "0001085", "MON-PM", "arrangement", "-", "25", "slow")
         words = ["decide", "0001085", "D1", "granted", ""]
-        said = "1 loses a need: MON-PM 0001085 Flora Marsh: step-free"
+        said = "1 loses a need: MON-PM 0001085 Flora Marsh"
         self.assertIn("\n1 loses a need\n  MON-PM 0001085 Flora Marsh: step-free\n", self.office("what-if", *words))
         self.assertEqual(self.told(*words)[0], said)
         changes = self.office("changes", "1")
@@ -267,18 +261,16 @@ class Told(sample.SampleSchool):
             self.assertEqual(slip in would, is_over)
             self.assertTrue(would.endswith("stays entered: `office absent MON-AM 0001000` notes it\n"), would)
             first, *_, last, note = self.told(*words)
-            self.assertEqual(note, "NOTE: who only did not come stays entered: `office back 1` or `office reinstate ..`, then "
-                                   "`office absent MON-AM 0001000` notes it")
+            self.assertEqual(note, "NOTE: who only did not come stays entered: `office absent MON-AM 0001000` notes it")
             met = len(re.findall("(?m)^[! ] MON-AM ", self.office("changes", "1")))
             self.assertGreater(met, 1)
             self.assertEqual((first == f"1 session that is over is changed: MON-AM of 2027-06-07 for {met} candidates",
-                              last == f"{LAST}; `office back 1` takes it back"), (is_over, is_over), (first, last))
+                              last), (is_over, LAST), (first, last))
             self.office("back", "1", "--yes")
         self.environment["TODAY"] = "2027-06-06"
         self.assertEqual(self.told(*words)[-1], LAST)
         self.environment["TODAY"] = "2027-07-01"
-        self.assertEqual(self.told("name", "0001051", "Another Name"),
-                         ["1 has another name: 0001051 Another Name", LAST])
+        self.assertEqual(self.told("name", "0001051", "Another Name"), [])
 
     def test_a_day_that_is_over_by_a_slip(self):
         """A year that was mistyped; and a whole office of last year, before it is imported."""
@@ -287,8 +279,7 @@ class Told(sample.SampleSchool):
                          "1 session that is over is changed: MON-AM of 2026-06-07 for 60 candidates")
         self.office("init", OFFICE=f"{self.folder}/none.db")
         done = self.run_office("what-if", "take", self.examples, TODAY="2027-07-01", OFFICE=f"{self.folder}/none.db")
-        self.assertIn("3 sessions lie in the past: last year's dates?\n", done.stdout)
-        self.assertNotIn("that are over", done.stdout)
+        self.assertIn("3 sessions that are over are changed\n  MON-AM of 2027-06-07 for 60 ", done.stdout)
 
     def test_what_an_arrangement_does_to_the_past_is_not_told(self):
         """0001051 sits in all three sessions, in two of them on the 7th. `changes` compares them all."""
@@ -300,89 +291,27 @@ class Told(sample.SampleSchool):
         self.assertEqual(self.told(*words), ["1 sits at another time: TUE-AM 0001051 Di Berg", LAST])
         self.assertEqual(re.findall(r"(?m)^! (\S+)", self.office("changes", "1")), ["MON-AM", "MON-PM", "TUE-AM"])
         self.environment["TODAY"] = "2027-06-07"
-        self.assertEqual(self.told("back", "1", "--yes"), ["1 sits at another time: 0001051 Di Berg in 3 sessions", LAST])
+        self.assertEqual(self.told("back", "1", "--yes")[0], "1 sits at another time (3 sessions): MON-AM 0001051 Di Berg; "
+                                                             "MON-PM 0001051 Di Berg; TUE-AM 0001051 Di Berg")
 
     def test_the_past_is_told_where_another_row_names_it(self):
-        """All but 0001000 need three things together. With a paper of MON-PM that session is told; another name is, too."""
+        """All but 0001000 need three things together. With a paper of MON-PM that session is told."""
         rows = "".join(f"{number:07},screen+small-room+quiet,0\n" for number in range(1017, 2004, 17))
         words = ["import", "arrangements", self.write("arrangements.csv", f"number,needs,extra\n{rows}")]
         self.assertIn("59 lose their desks", self.office("what-if", *words, TODAY="2027-06-07"))
         over = self.office("what-if", *words, TODAY="2027-06-09")
         self.assertIn("\nnobody sits otherwise\n", over)
-        self.assertNotIn("session ", over)
+        self.assertNotIn("in MON-PM", over)
         self.write("papers.csv", "paper,title,session,minutes,requires\nEN-1,English language,MON-PM,95,-\n")
         over = self.office("what-if", "take", ".", TODAY="2027-06-09")
         self.assertEqual(set(re.findall(r"^  (\S+) 0", over, re.M)), {"MON-PM"})
-        self.write("candidates.csv", "number,name,code\n0001000,Ada Lind,WK3DEGZDPC\n")
-        over = self.office("what-if", "take", ".", TODAY="2027-06-09")
-        self.assertIn("\n1 has another name\n  0001000 Ada Lind: ", over)
         self.assertIn("1 session that is over is changed\n  MON-PM of 2027-06-07 for ", over)
-
-    def test_a_hall_is_closed_when_its_session_begins(self):
-        """By an opening that ends at the start, or before it, and where the start goes behind the end of all halls."""
-        said, back = "1 hall is closed when its session begins", "`office back 1` takes it back"
-        for until in ("08:59", "09:00"):
-            words = ["open-hall", "MON-AM", "R14", "2", until]
-            self.assertIn(f"\n{said}\n  MON-AM R14 (open until {until}): the session begins at 09:00\n",
-                          self.office("what-if", *words))
-            self.assertEqual(self.told(*words), [f"{said}: MON-AM R14 (open until {until})", back])
-            self.assertNotIn("begins", "".join(self.told("open-hall", "MON-PM", "R14", "2", "18:00")))  # nor on the other
-            self.office("back", "2", "--yes")
-        self.assertEqual(self.told("open-hall", "MON-AM", "R14", "2", "09:01"), [])
-        later = self.write("s.csv", "session,date,start\nMON-AM,2027-06-07,23:00\n")
-        self.assertRegex(self.told("import", "sessions", later)[0], "^[0-9] halls are closed when their sessions begin: MON-AM ")
-
-    def test_a_closed_hall_opens_again(self):
-        """By the next import of the same openings, however long the log has become; no other hall is named."""
-        day = datetime.date.today().isoformat()
-        self.office("close-hall", "MON-AM", "GYM")
-        with open(os.path.join(self.desk, "log"), "a", encoding="utf-8") as log:
-            log.write("2027-05-01 10:00:00\ttester\tclose-hall MON-AM R14\t1\trefused 25\n" + "x\n" * logbook.LAST_BYTES)
-        self.assertNotIn("open again", "\n".join(self.told("open-hall", "MON-AM", "R14", "2", "12:30")))
-        words = ["import", "openings", str(self.examples / "openings.csv")]
-        self.assertIn("1 hall that was closed is open again\n  MON-AM GYM (closed on "
-                      f"{day}): afterwards `office close-hall MON-AM GYM` closes it\n", self.office("what-if", *words))
-        lines = self.told(*words)
-        self.assertEqual(lines[0], f"1 hall that was closed is open again: MON-AM GYM (closed on {day})")
-        self.assertEqual(lines[-1], f"{LAST}; `office back 1` takes it back")
-        self.assertNotIn("open again", self.office("what-if", *words))
-        self.office("close-hall", "TUE-AM", "R14")  # whoever was there has a desk elsewhere, or none moves
-        self.assertIn("open again: TUE-AM R14 ", "\n".join(self.told("open-hall", "TUE-AM", "R14", "1", "09:01")))
-
-    def test_who_was_noted_as_absent_leaves(self):
-        self.environment["TODAY"] = "2027-06-07"
-        self.office("absent", "MON-AM", "0001000", "0001017")
-        self.assertEqual(self.told("withdraw", "0001000", "MA-1")[-1],
-                         "NOTE: noted as absent, and not in the list for the exam board any more: 0001000 of MON-AM")
-        said = "office: NOTE the exam board's list lacks who is noted as absent and has left MON-AM: 0001000\n"
-        for words, answer in ((["0001034"], "2 candidates absent of 59\n"), ([], ""), (["--there", "1000"], "")):
-            done = self.run_office("absent", "MON-AM", *words)
-            self.assertEqual((done.returncode, done.stderr), (0, "" if "--there" in words else said), words)
-            self.assertTrue(done.stdout.startswith(answer), words)
-        self.assertIn("nothing is noted: 0001000: no candidate of MON-AM", self.refused("absent", "MON-AM", "1000"))
-        self.assertIn("0001034: absent, or there?", self.refused("absent", "MON-AM", "1034", "--there", "1034"))
-
-    def test_absences_of_a_session_that_is_moved(self):
-        """They were noted for the day that it leaves. Nobody can have been absent on a day that is to come."""
-        self.environment["TODAY"] = "2027-06-08"
-        self.office("absent", "MON-AM", "0001000", "0001017")
-        rows = "session,date,start\nMON-AM,{},09:00\nTUE-AM,2027-06-14,09:00\n"
-        stay = "NOTE: absences of MON-AM (2 candidates) stay, and it is no longer on 2027-06-07: "
-        for day, since in (("2027-06-09", "from 2027-06-09 on "), ("2027-06-08", "")):
-            words = ["import", "sessions", self.write("s.csv", rows.format(day))]
-            line = f"{stay}{since}`office absent MON-AM --there ..` takes them back"
-            self.assertIn(f"\n{line}\n", self.office("what-if", *words))
-            self.assertEqual([each for each in self.told(*words) if "absences" in each], [line])
-            back = self.told("back", "1", "--yes")
-            if since:
-                self.assertNotIn("absences", "".join(back))
-        later = self.write("s.csv", "session,date,start\nMON-AM,2027-06-07,09:30\n")
-        self.assertNotIn("absences", "".join(self.told("import", "sessions", later)))
 
     def test_what_if_says_the_same_before(self):
         words = ["close-hall", "MON-AM", "GYM"]
         would = [line for line in self.office("what-if", *words).split("\n") if re.match("[0-9]", line)]
-        self.assertEqual([line.partition(":")[0] for line in self.told(*words)[:-3]], would)
+        self.assertEqual([line.partition(":")[0] for line in self.told(*words)[:-1]], [
+            line.partition(":")[0] for line in would])
 
     def test_another_change_meanwhile(self):
         carried = changing.carry_out(self.value, [changing.Step(("withdraw", "0001000", "MA-1"))])
@@ -396,7 +325,7 @@ class Told(sample.SampleSchool):
 
     def test_no_memory(self):
         carried = changing.carry_out(self.value, [changing.Step(("withdraw", "0001000", "MA-1"))])
-        with mock.patch("exam_desk.effects.groups", side_effect=MemoryError):
+        with mock.patch("exam_desk.effects.headlines", side_effect=MemoryError):
             [line] = effects.done(self.value, carried.copy, lambda *_: None)
         self.assertTrue(line.endswith(": there is no memory; try `office changes 1`"), line)
 

@@ -135,12 +135,13 @@ class TestRehearsal(DeskSchool):
         self.assertIn("What changed", self.browser.words(page))
         self.assertNotEqual(self.seats(), before)
 
-    def test_another_name_is_rehearsed_anew_with_the_code_that_there_is_now(self):
+    def test_another_name_is_asked_once_more_where_the_code_is_another_meanwhile(self):
         page, _ = self.browser.post("/propose/name", "/candidates/1051", number="0001051", name="Di Marsh")
         row = "number,name,code\n0001051,Di Berg,OTHERCODE1\n"
         self.office("import", "candidates", self.write("candidates.csv", row))
         self.browser.post(page + "/do", page)
-        self.assertIn("so nothing was done", self.browser.words(page))
+        self.assertIn("go back to the form", self.browser.words(page))
+        page, _ = self.browser.post("/propose/name", "/candidates/1051", number="0001051", name="Di Marsh")
         self.browser.post(page + "/do", page)
         self.assertEqual(self.rows("SELECT name, code FROM candidate WHERE number = 1051"), [("Di Marsh", "OTHERCODE1")])
 

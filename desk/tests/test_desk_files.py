@@ -16,12 +16,10 @@ from sample import DESK, KINDS
 KEPT_TOGETHER = """
 from unittest import mock
 from exam_desk.workbook.values import Way
-from exam_web import incoming
-upload = incoming.Upload()
-books = [incoming.Book(name, content, Way()) for name, content in
-         (("a.csv", b"a;b\\n1;2\\n"), ("b.csv", b"a;b\\n1;2\\n"), ("c.csv", b"x\\n"))]
-with mock.patch.multiple(incoming, MOST_CELLS=5, text=lambda words: words):
-    print([book.name for book, _ in incoming.with_cells(upload, books)], *map(str, upload.notes), sep="\\n")
+from exam_web import uploads
+upload = uploads.Upload(Way(), books=[("a.csv", b"a;b\\n1;2\\n"), ("b.csv", b"a;b\\n1;2\\n"), ("c.csv", b"x\\n")])
+with mock.patch.multiple(uploads, MOST_CELLS=5, text=lambda words: words):
+    print([sheet.name for sheet in uploads.together(upload).sheets], *map(str, upload.notes), sep="\\n")
 """
 NEW = b"number,name,code\n12001,Nadia,K4WBN7RTQD\n0012008,Tom,\n"
 
@@ -34,7 +32,7 @@ class Uploads(DeskSchool):
         """They are as many as those of one workbook: what goes beyond is named, and the others are read."""
         done = subprocess.run([PYTHON, "-c", KEPT_TOGETHER], cwd=DESK.parent, capture_output=True, text=True, check=True,
                               env={**os.environ, "PYTHONPATH": str(DESK)})
-        self.assertEqual(done.stdout, "['a.csv', 'c.csv']\n<bdi>b.csv</bdi>: it is too large beside the others: bring it alone\n")
+        self.assertEqual(done.stdout, "['a', 'c']\n<bdi>b.csv</bdi>: it is too large beside the others: bring it alone\n")
 
     def propose(self, page, status=303, **fields):
         return self.browser.post("/propose/files", page, status, upload=page.rsplit("/", 1)[1], **fields)[0]
@@ -85,7 +83,7 @@ class TestFiles(Uploads):
         rows = f"number,name,code\n{number},Ada Marsh,\n{int(other)},Bo,\n0012001,Nadia,\n"
         kept = dict(self.rows("SELECT printf('%07d', number), code FROM candidate"))
         page = self.upload(("candidates.csv", rows.encode()))
-        self.assertIn("1 mistake 1 candidate has no access code", self.browser.words(page))
+        self.assertIn("1 mistake 2 candidates have no access code", self.browser.words(page))
         self.browser.post(page + "/correct", page, all="1")
         words = self.browser.words(page)
         self.assertIn("No mistake", words)
@@ -217,12 +215,11 @@ class TestFiles(Uploads):
         """What a hasty officer chooses, also in a zip: each has one line, and no other file suffers from it."""
         backup = zipped({"o/office.db": b"SQLite format 3\0" + bytes(99), "o/notebook/school.json": '"x"'})
         for name, content, said in (
-                ("~$school.xlsx", b"\3Ada" + bytes(160), "it only says that a workbook is open: save and close that"),
                 ("school.xlsx", b"", "it is empty: save it once more"), ("entries.csv", b"\r\n \n", "it is empty"),
                 ("Plan.PDF", b"%PDF-1.4", "it is no table: bring what a spreadsheet saves"),
                 ("plan.jpeg", b"\xff\xd8\xff", "it is no table"),
                 ("letter.docx", zipped({"word/x": "x"}), "it is no table"),
-                ("school.numbers", zipped({"Index/Document.iwa": b"x"}), "Numbers wrote it: export it there as Excel"),
+                ("school.numbers", zipped({"Index/Document.iwa": b"x"}), "it is no table"),
                 ("school.xls", b"\xd0\xcf\x11\xe0\xa1\xb1\x1a\xe1" + bytes(99), "it is of the old form .xls"),
                 ("office.db", b"SQLite format 3\0" + bytes(99), "it is an office: the page Office takes a backup back"),
                 ("office-2027-05-01.zip", backup, "office.db : it is an office")):
@@ -232,7 +229,8 @@ class TestFiles(Uploads):
                 self.assertIn("No mistake", self.browser.words(page))
                 if name.endswith(".zip"):
                     break
-        self.assertEqual(self.upload(("._halls.csv", b"\0\5\x16\7")), "/files")
+        for hidden in ("._halls.csv", b"\0\5\x16\7"), ("~$school.xlsx", b"\3Ada" + bytes(160)):
+            self.assertEqual(self.upload(hidden), "/files")
         page = self.upload(("all.zip", zipped({"__MACOSX/._halls.csv": b"\0\5", ".DS_Store": b"\0", "halls.csv":
                                                b"hall,title,features\nR20,Room,-\n"})))
         self.assertNotIn('class="said', self.browser.get(page))
@@ -244,28 +242,6 @@ class TestFiles(Uploads):
         page = self.upload(("halls.csv", rows), ("more.csv", rows + b"R21,Room,-\n"))
         self.assertIn("more.csv : another file has halls too: import that one, then", self.browser.words(page))
         self.assertNotIn("R21", self.browser.ask("GET", page + "/halls.csv")[1])
-
-    WHOLE = {"moved": "Every row is wrong in number . Has a column moved", "unknown": "Every row is wrong in paper",
-             "old": "All these days have passed. Is it a file of last year?",
-             "known": "The office has all these rows already: there is nothing to import."}
-
-    def test_what_is_wrong_or_old_as_a_whole_is_said_as_a_whole(self):
-        """And not where it is so of all rows but one."""
-        people = self.rows("SELECT printf('%07d', number), name, code FROM candidate LIMIT 3")
-        now = (self.examples / "sessions.csv").read_text("utf-8")
-        rows = {"candidates": "".join(f"{name},{number},{code}\n" for number, name, code in people),
-                "known": "".join(f"{','.join(row)}\n" for row in people),
-                "entries": "".join(f"{number},X-1\n" for number, *_ in people)}
-        for kind, text, said in (
-                ("candidates", rows["candidates"], "moved"), ("candidates", f"{rows['candidates']}0009004,Bo,CODE0004\n", ""),
-                ("entries", rows["entries"], "unknown"), ("entries", f"{rows['entries']}{people[0][0]},EN-1\n", ""),
-                ("candidates", rows["known"], "known"), ("candidates", f"{rows['known']}0009004,Bo,CODE0004\n", ""),
-                ("sessions", now.partition("\n")[2].replace("2027", "2026"), "old"),
-                ("sessions", now.partition("\n")[2].replace("2027", "2026") + "NEW,2027-05-01,09:00\n", ""),
-                ("sessions", now.partition("\n")[2], "known")):
-            page = self.upload((f"{kind}.csv", f"{','.join(files.HEADERS[kind])}\n{text}".encode()))
-            words = self.browser.words(page)
-            self.assertEqual([name for name, each in self.WHOLE.items() if each in words], [said] * (said != ""), text)
 
     def test_a_file_that_is_read_as_a_workbook_names_its_lines(self):
         page = self.upload(("entries.csv", b"number;paper\n1051;EN-1\nx;EN-1\n"))
@@ -317,7 +293,7 @@ class TestFiles(Uploads):
             text = self.browser.get(page)
             self.assertRegex(text, "<h1><bdi>1</bdi> mistake ", names)
             self.assertNotIn("/propose/files", text)
-        self.browser.post(page + "/again", page, book="0", dates="month-first")
+        page = self.upload(*self.with_semicolons(*names, **date), dates="month-first")
         self.assertIn("No mistake", self.browser.words(page))
         for names in ("openings.csv",), ("openings.csv", "sessions.csv"):
             page = self.upload(*[each for each in self.with_semicolons(*names) if each[0] != "halls.csv"])
@@ -328,9 +304,9 @@ class TestFiles(Uploads):
         """A sheet that is hidden, until the form says that it counts, has the session of which the other speaks."""
         hidden = workbook({"Sessions": [["session", "date", "start"], ["FRI-AM", "2027-06-11", "09:00"]],
                            "Halls": [["hall", "title", "features"], ["ATRIUM", "Atrium", "-"]]}, sheets=["Sessions"])
-        page = self.upload(("s.xlsx", hidden), *self.with_semicolons("papers.csv")[1:2])
-        self.assertIn("'FRI-AM': is not among the sessions", self.browser.words(page))
-        self.browser.post(page + "/again", page, book="0", hidden="take")
+        found = [("s.xlsx", hidden), *self.with_semicolons("papers.csv")[1:2]]
+        self.assertIn("'FRI-AM': is not among the sessions", self.browser.words(self.upload(*found)))
+        page = self.upload(*found, hidden="take")
         self.assertIn("No mistake", self.browser.words(page))
         self.browser.get(page + "/papers.csv")
 
@@ -339,10 +315,9 @@ class TestFiles(Uploads):
         page = self.upload(("s.xlsx", workbook(sheets)))
         self.assertIn("2027-06-01 or 2027-01-06? Write it so", self.browser.words(page))
         self.assertNotIn("--dates", self.browser.get(page))
-        self.browser.post(page + "/again", page, book="0", dates="month-first")
+        page = self.upload(("s.xlsx", workbook(sheets)), dates="month-first")
         self.assertIn("X-1,2027-01-06,09:00", self.browser.ask("GET", page + "/sessions.csv")[1].replace('"', ""))
-        self.assertIn('value="month-first" selected', self.browser.get(page))
-        self.browser.post(page + "/again", page, 400, book="0", dates="x")
+        self.upload(("s.xlsx", workbook(sheets)), dates="x", status=400)
 
     def test_no_page_names_what_a_command_line_can_say(self):
         """Hidden rows and sheets, two sheets of a kind, doubled headers, empty codes, withdrawn entries."""
@@ -394,18 +369,17 @@ class TestFiles(Uploads):
         self.assertIn("withdraw --list", self.office("back"))
 
     def test_a_list_has_the_zeros_back_that_a_spreadsheet_took(self):
-        """So `office withdraw --list` takes it, too; entries beside other files have a cure each."""
+        """Each number that lacks them has a cure that is clear; one button takes all."""
         numbers, _ = self.listed()
         rows = "number,paper\n" + "".join(f"{int(number)},EN-1\n" for number in numbers)
-        page = self.upload(("leave.csv", rows.encode()), ("sessions.csv", b"session,date,start\n"))
-        self.assertIn("3 mistakes", self.browser.words(page))
         page = self.upload(("leave.csv", rows.encode()))
-        words = self.browser.words(page)
-        self.assertIn("3 numbers got the zeros in front that were missing.", words)
-        self.assertIn("The office has all 3 entries already", words)
+        self.assertIn("3 mistakes", self.browser.words(page))
+        self.browser.post(page + "/correct", page, all="1")
+        self.assertIn("The office has all 3 entries already", self.browser.words(page))
         before = self.live()
         self.carry_out(self.propose(page, choice="withdraw"))
         self.assertEqual(self.live(), before - {*numbers})
+        self.assertIn("withdraw --list leave.csv", self.log())
 
     def test_a_file_of_columns_says_what_headers_mean(self):
         """Beside the workbook or in a zip with it; without one the page says which headers are read."""
@@ -428,15 +402,9 @@ class TestFiles(Uploads):
         self.assertIn('"R20","Room","-"', self.browser.ask("GET", page + "/halls.csv")[1])
         for wrong, said in ((b"[pupils]\n", "pupils is none of the seven kinds"), (b"x = " + b"[" * 9999, "recursion"),
                             (b"\xff", "its letters are no UTF-8: save it as UTF-8")):
-            words = self.browser.words(self.upload(export, ("columns.toml", wrong)))
-            self.assertIn(said, words)
-            self.assertIn("MISTAKE", words)
-        page = self.upload(("halls.csv", b"hall,title,features\nR20,Room,-\n"), ("columns.toml", b"[pupils]\n"))
-        words = self.browser.words(page)
-        self.assertIn("1 mistake", words)
-        self.assertIn("until then nothing is imported", words)
-        self.assertNotIn("/propose/files", self.browser.get(page))
-        self.assertRegex(self.browser.words("/files"), r"halls\.csv ?, columns\.toml 1 mistake")
+            _, text = self.browser.send("/files", "/files", "files", export, ("columns.toml", wrong), status=422)
+            self.assertIn(said, text.partition('role="alert"')[2])
+            self.assertRegex(text, 'id="files"[^>]* aria-invalid="true"')
         words = self.browser.words(self.upload(("a.toml", says), ("b.toml", b"x"), export))
         self.assertIn("b.toml : another file says already what headers mean", words)
         self.assertIn("No mistake", words)
@@ -507,37 +475,28 @@ class TestFiles(Uploads):
         sheets = {"Candidates": [["number", "name", "code"], [12001, "Nadia", "K4WBN7RTQD"],
                                  [12008, "Tom", "K4WBN7RTQE"]],
                   "Entries": [["number", "paper"], [12001, "EN-1"], [12008, "EN-1"]]}
-        hidden = workbook(sheets, rows={"Candidates": [3]}, sheets=["Entries"])
-        plain = ("halls.csv", b"hall,title,features\nR20,Room 20,-\n")
-        page = self.upload(("school.xlsx", hidden), plain)
-        words = self.browser.words(page)
-        self.assertIn("is hidden, perhaps by a filter", words)
-        self.assertIn("is hidden: show it if it has the entries", words)
-        self.assertNotIn("/candidates.csv", self.browser.get(page))
-        for values in {"dates": "day-first"}, {"hidden": ""}, {"dates": "month-first", "hidden": ""}:
-            self.browser.post(page + "/again", page, book="0", **values)
+        found = [("school.xlsx", workbook(sheets, rows={"Candidates": [3]}, sheets=["Entries"])),
+                 ("halls.csv", b"hall,title,features\nR20,Room 20,-\n")]
+        for values in {}, {"dates": "day-first"}, {"dates": "month-first", "hidden": ""}:
+            page = self.upload(*found, **values)
             words = self.browser.words(page)
             self.assertIn("is hidden, perhaps by a filter", words, values)
+            self.assertIn("is hidden: show it if it has the entries", words)
             self.assertNotIn("as you said", words, values)
-            self.assertIn('value="" selected>not answered yet', self.browser.get(page))
-        self.browser.post(page + "/again", page, 400, book="0", hidden="x")
-        self.browser.post(page + "/again", page, book="0", hidden="take")
+            self.assertNotIn("/candidates.csv", self.browser.get(page))
+            self.assertNotIn("/propose/files", self.browser.get(page))
+        self.upload(*found, hidden="x", status=400)
+        page = self.upload(*found, hidden="take")
         self.assertIn("No mistake", self.browser.words(page))
         for name, rows in (("candidates", "0012001,Nadia,K4WBN7RTQD 0012008,Tom,K4WBN7RTQE"),
                            ("entries", "0012001,EN-1 0012008,EN-1"), ("halls", "R20,Room 20,-")):
             _, text = self.browser.ask("GET", f"{page}/{name}.csv")
             self.assertEqual(text.replace('"', "").split("\n")[1:-1], rows.replace(" 00", "\n00").split("\n"))
-        self.assertIn('value="take" selected', self.browser.get(page))
-        self.browser.post(page + "/again", page, book="0", hidden="leave")
+        page = self.upload(*found, hidden="leave")
         self.assertIn("No mistake", self.browser.words(page))
         self.assertEqual(self.browser.ask("GET", page + "/candidates.csv")[1].count("\n"), 2)
         self.browser.get(page + "/entries.csv", 404)
         self.browser.get(page + "/halls.csv")
-        self.assertIn('value="leave" selected', self.browser.get(page))  # it can still be chosen otherwise
-        for wrong in ("1", "-1", "", "x"):
-            self.browser.post(page + "/again", page, 404, book=wrong)
-        page = self.upload(("school.xlsx", workbook(sheets)), plain)
-        self.assertNotIn('name="hidden"', self.browser.get(page))
 
     def test_zips(self):
         out = io.BytesIO()

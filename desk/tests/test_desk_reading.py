@@ -1,4 +1,4 @@
-"""What a form sends to the desk in a browser while the office is read: it waits, and nothing of it is lost."""
+"""What is asked of the desk in a browser while it reads the office: it waits, and nothing of it is lost."""
 import concurrent.futures
 import contextlib
 import html
@@ -12,7 +12,7 @@ from unittest import mock
 import test_desk_files
 from desk_client import MARK, STATE
 
-LONGER = 5  # seconds: a page says sooner that the office is being read
+LONGER = 1  # seconds in which an answer would be there
 THREADS = 6  # of the desk
 
 
@@ -39,14 +39,10 @@ class TestForms(test_desk_files.Uploads):
             self.assertEqual([each.result() for each in done], [])
             return [each.result() for each in asked]
 
-    def test_a_page_looks_again_by_itself(self):
+    def test_a_page_waits_and_says_what_was_done(self):
         self.browser.post("/office/school", "/office", name="Hill")
-        with self.being_read():
-            answer, text = self.browser.ask("GET", "/candidates/1051")
-        self.assertEqual(answer.status, 503)
-        self.assertIn('http-equiv="refresh"', text)
-        self.assertNotIn("have its name now", text)  # what was done stays until it can be heard
-        text = self.browser.get("/candidates/1051")
+        ((answer, text),) = self.while_read([(self.browser.ask, "GET", "/candidates/1051")])
+        self.assertEqual(answer.status, 200)
         self.assertIn("CS-1", text)
         self.assertIn("have its name now", text)
 

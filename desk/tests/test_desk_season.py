@@ -12,74 +12,34 @@ OPENINGS = "session,hall,desks,until,reserved\nHL,AULA,5,18:00,no\n"
 ENTRIES = "number,paper\n0001000,HL-1\n0001000,T1-1\n"
 
 TURNS = """
-import flask, sys, threading
+import sys, threading
 sys.path.insert(0, sys.argv[1])
 from exam_web import desk
-begun, end, asked = threading.Event(), threading.Event(), []
-class Reading:
-    def person(self, number):
-        return number
-    def ask(self, people):
-        asked.append(len(people))
+begun, end, found = threading.Event(), threading.Event(), []
 view = desk.View.__new__(desk.View)
-view.reading, view.lock, view.locks, view.found = Reading(), threading.Lock(), {}, {}
-view.ask(range(450))
+view.locks, view.found = {}, {}
 @desk.once
 def slow(view):
     begun.set()
     end.wait()
+    found.append(7)
     return 7
 @desk.once
 def quick(view):
     return 5
 threading.Thread(target=slow, args=[view]).start()
 begun.wait()
-desk.PATIENCE = 0.1
-app = flask.Flask("x")
-with app.test_request_context():
-    try:
-        slow(view)
-    except desk.StillReading as stage:
-        print(stage)
-    print(quick(view))
-with app.test_request_context(method="POST"):
-    threading.Timer(0.5, end.set).start()
-    print(slow(view), asked)
+print(quick(view))
+threading.Timer(0.2, end.set).start()
+print(slow(view), slow(view), found)
 """
-
-
-NEXT_DAYS = """
-import sys
-sys.path.insert(0, sys.argv[1])
-from exam_web import season
-class Office:
-    office, everybody = None, 0
-    def count(self, query):
-        return self.everybody
-season.view = season.desk = Office
-season.days_until = int
-paper = season.on_paper.Paper({}, {}, "", "")
-season.on_paper.noted = lambda office, code: paper._replace(lines={"1": None} if code != "UNPRINTED" else {})
-found = [season.Sums(code, day, 0, members, 0, 0, 0, 0) for code, day, members in
-         (("TODAY", "0", 900), ("UNPRINTED", "1", 4000), ("FULL", "2", 1100), ("MORE", "3", 1), ("LATER", "4", 1))]
-for Office.everybody in (2000, 2001):
-    print(*([each.code for each in part] for part in season.next_days(found)))
-"""
-
-
-@unittest.skipUnless(HAS_FLASK, "Flask or waitress is missing")
-class TestNextDays(unittest.TestCase):
-    def test_of_as_many_as_are_soon_asked_of(self):
-        """900 and 1,100 members are 2,000 candidates at most; one more is too many, unless the office has no more."""
-        done = subprocess.run([PYTHON, "-c", NEXT_DAYS, DESK], capture_output=True, text=True, timeout=60, check=True)
-        self.assertEqual(done.stdout, "['TODAY', 'FULL', 'MORE'] []\n['TODAY', 'FULL'] ['MORE']\n")
 
 
 @unittest.skipUnless(HAS_FLASK, "Flask or waitress is missing")
 class TestTurns(unittest.TestCase):
-    def test_who_asks_of_many_leaves_others_their_turn(self):
+    def test_who_waits_for_one_thing_does_not_hold_up_another(self):
         done = subprocess.run([PYTHON, "-c", TURNS, DESK], capture_output=True, text=True, timeout=60, check=True)
-        self.assertEqual(done.stdout, "Candidates and desks are counted\n5\n7 [200, 200, 50]\n")
+        self.assertEqual(done.stdout, "5\n7 7 [7]\n")
 
 
 class TestWhatNeedsAPerson(DeskSchool):
@@ -115,19 +75,6 @@ class TestWhatNeedsAPerson(DeskSchool):
         self.assertIn(f"{len(moves)} candidates are not as on paper", self.browser.words("/sessions/MON-AM/printed"))
         self.office("printed", "MON-AM")  # the office is as it was, the notebook is not
         self.assertNotIn("as on paper", self.browser.words("/?piece"))
-
-    def test_of_the_next_days_the_page_itself_says_it(self):
-        """Three days before MON-AM, and four before TUE-AM, which only the piece behind the page looks at."""
-        for session in ("MON-AM", "TUE-AM"):
-            self.office("printed", session)
-        for paper in ("CS-1", "PH-1"):
-            self.office("withdraw", "0001051", paper)
-        for today, shown in (("2027-06-03", []), ("2027-06-04", ["MON-AM"]), ("2027-06-07", ["MON-AM", "TUE-AM"])):
-            self.end()
-            self.environment["TODAY"] = today
-            self.start()
-            said = [re.findall(r"of (\S+) (?:is|are) not as on paper", self.browser.words(path)) for path in ("/", "/?piece")]
-            self.assertEqual(said, [shown, ["MON-AM", "TUE-AM"]], today)
 
     def test_not_of_a_session_that_is_over(self):
         self.office("printed", "MON-AM")
@@ -179,7 +126,7 @@ class TestWhatNeedsAPerson(DeskSchool):
 
 
 class TestClashes(SmallSchool):
-    ONE, TWO = (f"{words} with two papers at once and no appeal in" for words in ("1 candidate", "2 candidates"))
+    ONE, TWO = (f"{words} with two papers at once and no appeal open or granted in" for words in ("1 candidate", "2 candidates"))
 
     def test_by_the_last_day_to_lodge_then_by_the_day_of_the_session(self):
         """A clash appeal can be lodged until five days before: 2 June for S1, 3 June for S2."""
@@ -215,11 +162,10 @@ class TestClashes(SmallSchool):
         refs = [self.office("lodge", f"000000{last}", "S1", "clash", "SHORT", "").split()[1] for last in "12"]
         self.assertNotIn("two papers at once", self.browser.words("/"))
         self.office("decide", "0000001", refs[0], "refused", "no")
-        text = self.browser.get("/")
-        self.assertIn("<bdi>1</bdi> candidate with two papers at once in <bdi>S1</bdi>: the appeal was refused", text)
-        self.assertIn(f'href="{self.browser.prefix}/clashes?session=S1"', text)
+        self.assertIn(f"{self.ONE} S1", self.browser.words("/"))
+        self.assertIn(f'href="{self.browser.prefix}/clashes?session=S1"', self.browser.get("/"))
         self.office("decide", "0000002", refs[1], "granted", "")
-        self.assertNotIn("no appeal in", self.browser.words("/"))
+        self.assertIn(f"{self.ONE} S1", self.browser.words("/"))
         self.office("lodge", "0000001", "S1", "clash", "SHORT", "again")
         self.assertNotIn("two papers at once", self.browser.words("/"))
 

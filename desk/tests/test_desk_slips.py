@@ -1,6 +1,4 @@
-"""What may be a slip, at the desk in a browser: a change of a session that is over, a closed hall that opens again."""
-import datetime
-import re
+"""What may be a slip, at the desk in a browser: a change of a session that is over."""
 import unittest
 
 from desk_client import DeskSchool, effects
@@ -41,25 +39,6 @@ class TestTuesday(DeskSchool):
         self.assertIn("Is this a new season? It wants a new office in a new folder", self.words(page))
         self.assertIn("/handbook#backup-and-moving-house", self.browser.get(page))
 
-    def test_a_closed_hall_opens_again(self):
-        self.office("close-hall", "TUE-AM", "GYM")
-        form = {"session": "TUE-AM", "desks": "24", "until": "12:30"}
-        page, _ = self.browser.post("/propose/open", "/sessions/TUE-AM", hall="GYM", **form)
-        self.assertEqual(effects(self.browser.get(page))["opened"], (1, 1))
-        self.assertIn(f"Closed halls that open again: GYM (TUE-AM, {datetime.date.today()}).", self.words(page))
-        self.browser.post(page + "/do", page)
-        self.assertIn("1 hall that was closed is open again", self.words(page))
-        page, _ = self.browser.post("/propose/open", "/sessions/TUE-AM", hall="AULA", **form)
-        self.assertNotIn("opened", effects(self.browser.get(page)))
-
-    def test_a_hall_is_closed_when_its_session_begins(self):
-        form = {"session": "TUE-AM", "hall": "R14", "desks": "2"}
-        page, _ = self.browser.post("/propose/open", "/sessions/TUE-AM", until="09:00", **form)
-        self.assertEqual(effects(self.browser.get(page))["shut"], (1, 1))
-        self.assertIn("Closed before anybody can sit there: R14 in TUE-AM, open until 09:00; the session begins at 09:00.",
-                      re.sub(" ([,;.])", r"\1", self.words(page)))
-        page, _ = self.browser.post("/propose/open", "/sessions/TUE-AM", until="12:00", **form)
-        self.assertNotIn("shut", effects(self.browser.get(page)))
 
 
 if __name__ == "__main__":

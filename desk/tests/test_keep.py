@@ -237,7 +237,7 @@ class Lodged(sample.SampleSchool):
                          f"{NUMBER} D1 open\n")
         self.assertIn("refused 13 last day 2027-05-28\n  the last day",
                       self.refused("lodge", NUMBER, "MON-AM", "arrangement", "-", "25", "", TODAY="2027-05-29"))
-        self.assertIn("refused 6", self.refused("lodge", "0009999", "MON-AM", "hall", "PC1", ""))
+        self.assertIn("the office has no candidate 0009999", self.refused("lodge", "0009999", "MON-AM", "hall", "PC1", ""))
         self.assertIn("error: number '1051x': seven digits\n",
                       self.run_office("lodge", "1051x", "MON-AM", "hall", "PC1", "").stderr)
         self.assertEqual(self.run_office("lodge", NUMBER, "MON-AM", "seat", "PC1", "").returncode, 2)

@@ -60,11 +60,11 @@ class TestTexts(unittest.TestCase):
             '/a/keep.log: <bdi lang="en">127.0.0.1 80 ist nicht zu haben: schon belegt; einen anderen Port nehmen',
             '<bdi lang="en">nothing of it'])
 
-    def test_a_name_at_a_desk_keeps_its_particles_and_is_cut_at_its_end(self):
+    def test_a_name_at_a_desk_is_the_surname_and_is_cut_at_its_end(self):
         shorten = SAY.replace("wording.said", "wording.short")
         names = ["Gisela von der Heide", "von der Heide, Gisela", "François Le Goff", "Ada Lin", "Le Goff", "Mononym"]
         done = subprocess.run([PYTHON, "-B", "-c", shorten, DESK, *names], capture_output=True, text=True, check=True)
-        self.assertEqual(done.stdout.splitlines(), ["von der H…", "von der H…", "Le Goff F", "Lin A", "Goff L", "Mononym"])
+        self.assertEqual(done.stdout.splitlines(), ["Heide", "von der H…", "Goff", "Lin", "Goff", "Mononym"])
 
 
 class TestGerman(DeskSchool):
@@ -151,7 +151,7 @@ class TestNoEnglish(DeskSchool):
 
     def test_absences(self):
         for numbers, wrong in (("", "nichts ist vermerkt: es steht keine Nummer da"),
-                               ("9999999 8", "nichts ist vermerkt: 9999999, 0000008: kein Prüfling von MON-AM"),
+                               ("9999999 8", "nichts ist vermerkt: 0000008, 9999999: kein Prüfling von MON-AM"),
                                ("x", "'x' ist keine Nummer eines Prüflings")):
             self.assertIn(wrong, self.page("/sessions/MON-AM/absent", numbers=numbers))
         self.page("/sessions/MON-AM/absent", numbers="1051")

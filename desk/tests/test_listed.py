@@ -65,8 +65,6 @@ class Listed(test_changing.Changing):
     def test_numbers_without_zeros(self):
         """A spreadsheet took them away, or wrote a fraction; one row is one."""
         done = self.run_list("number,paper\n1000,MA-1\n0001017,MA-1\n1017.0,LAT\n")
-        self.assertTrue(done.stderr.startswith("office: NOTE 2 numbers of the file got the zeros in front that were "
-                                               "missing\n"), done.stderr)
         self.assertIn("line 2: withdraw 0001000 MA-1: withdrawn\nline 3: withdraw 0001017 MA-1: withdrawn\n", done.stdout)
         self.assertIn("line 4: withdraw 0001017 LAT: refused 8\n", done.stderr)
         done = self.run_list("number,paper\n0001000,MA-1\n", "reinstate")
@@ -108,7 +106,7 @@ class Listed(test_changing.Changing):
             for words in (*said, "office: nothing is changed\n"):
                 self.assertIn(words, done.stderr)
         self.assertIn("there is no row; nothing is changed", self.run_list("number,paper\n").stderr)
-        self.assertIn("No such file or directory; nothing is changed", self.refused("withdraw", "--list", "none.csv"))
+        self.assertIn("none.csv: No such file or directory\n", self.refused("withdraw", "--list", "none.csv"))
         self.assertIn("is no file, but a folder, a pipe or a device; `-` in its place reads what comes in; "
                       "nothing is changed", self.refused("withdraw", "--list", self.folder))
         self.assertIn("there is no office here", self.run_list(GOOD, OFFICE=self.path + ".none").stderr)
@@ -120,7 +118,7 @@ class Listed(test_changing.Changing):
         for line in ("line 1: withdraw 0001017 MA-1: withdrawn\n", "withdraw 0001017 BI-1: withdrawn\n", "2 of 2 rows "):
             self.assertIn(line, said)
         self.assertEqual(self.log()[-1], ["withdraw 0001017 --all", "0", "2 of 2 rows"])
-        self.assertIn("1017 is entered for no paper; nothing is changed", self.refused("withdraw", "1017", "--all"))
+        self.assertIn("1017 is entered for no paper from today on; nothing is changed", self.refused("withdraw", "1017", "--all"))
         self.office("back", "2", "--yes")
         self.assertEqual(self.state(), self.before)
 
@@ -128,11 +126,13 @@ class Listed(test_changing.Changing):
         """On the day of a session its entry goes too; on the day after it that stays."""
         self.environment["TODAY"] = "2027-06-08"
         done = self.run_office("withdraw", "1017", "--all")
-        self.assertEqual(done.stderr.splitlines()[0], "office: NOTE entries in sessions that are over stay: 2 (MA-1, EN-2)")
+        self.assertEqual(done.stderr.splitlines()[0], "office: NOTE entries in sessions that are over stay: 2 (MA-1, EN-2); "
+                         "`office withdraw 0001017 PAPER` withdraws one of them")
         self.assertEqual(done.stdout, "line 1: withdraw 0001017 BI-1: withdrawn\n1 of 1 row done; `office back` lists the "
                                       "copy that takes all of it back\n")
-        self.assertIn("0001017 is entered for no paper from today on; nothing is changed; entries in sessions that are over "
-                      "stay: 2 (MA-1, EN-2); `office withdraw 0001017 PAPER` withdraws", self.refused("withdraw", "1017", "--all"))
+        said = self.refused("withdraw", "1017", "--all")
+        self.assertIn("NOTE entries in sessions that are over stay: 2 (MA-1, EN-2); ", said)
+        self.assertIn("0001017 is entered for no paper from today on; nothing is changed", said)
         self.assertIn("office: the office has no candidate 0008888; ", self.refused("withdraw", "8888", "--all"))
 
     def test_words(self):

@@ -14,7 +14,7 @@ from unittest import mock
 
 import sample
 
-from exam_desk import appeals, coding, files  # beside the tests' folder
+from exam_desk import appeals, coding, files, reasons  # beside the tests' folder
 from exam_desk.office import Trouble
 from exam_desk.reading import Reading
 from exam_desk.words import UNSHOWN
@@ -188,7 +188,6 @@ class Lists(sample.SampleSchool):
         for until, desks in (("09:00", ["58", "0"]), ("09:01", ["103", "45"])):  # nobody can sit there; for a minute
             self.office("open-hall", "MON-AM", "R14", "45", until)
             self.assertEqual(self.office("summary", "MON-AM").split("\n")[1].split()[6:8], desks)
-            self.assertIn(f"with {desks[0]} desks, {desks[1]} free", self.office("session-page", "MON-AM"))
 
     def test_open_appeals(self):
         self.assertEqual(self.office("appeals-open"), "no appeal is open\n")
@@ -254,16 +253,13 @@ class Lists(sample.SampleSchool):
         self.assertRegex(self.office("back"), "before codes 0001051\n")
         self.assertIn("the office has no candidate 0009999", self.refused("codes", "1051", "9999"))
 
-    def test_shortage(self):
-        for session, right in [("MON-AM", "right: 12 candidates = 10 desks + 2 unseated\n"),
-                               ("MON-PM", "right: 60 candidates = 58 desks + 2 unseated\n"),
-                               ("TUE-AM", "right: 4 candidates = 2 desks + 2 unseated\n")]:
-            sheet = self.office("shortage", session)
-            self.assertEqual(self.office("check-shortage", self.write("sheet", sheet)), right)
-            self.assertEqual(self.office("check-shortage", "-", stdin=sheet), right)
+    def faults(self, session, change=lambda sheet: sheet):
+        with Reading(self.value) as reading:
+            sheet = reasons.read_sheet(change(reading.sheet("shortage", session)))
+            return [*reasons.Reasons(reading, session).faults(sheet)]
 
-    def test_wrong_shortages(self):
-        sheet = self.office("shortage", "TUE-AM")
+    def test_shortages(self):
+        self.assertEqual([self.faults(session) for session in ("MON-AM", "MON-PM", "TUE-AM")], [[], [], []])
         for old, new, said in [
                 ("unseated 2", "unseated 1", "unseated: the sheet counts 1, and there are 2"),
                 ("hall LIB desks 2\n", "", "hall LIB with 2 desks suits one of the candidates, but is not listed"),
@@ -272,42 +268,20 @@ class Lists(sample.SampleSchool):
                 ("0001102\n", "0001102\n0001102\n", "0001102 is listed 2 times"),
                 ("0001102\n", "0009999\n", "0009999 is not a member of the session"),
                 ("candidates 4", "candidates 5", "5 candidates are not 2 desks and 2 unseated")]:
-            done = self.run_office("check-shortage", self.write("sheet", sheet.replace(old, new)))
-            self.assertEqual((done.returncode, done.stderr), (1, ""))
-            self.assertIn(said, done.stdout)
-        for text in ("", "nonsense", sheet + "more\n", sheet.replace("TUE-AM", "'; DROP")):
-            self.assertIn("does not belong", self.refused("check-shortage", self.write("sheet", text)))
-        self.assertIn("no session", self.refused("check-shortage", self.write("sheet", sheet.replace("TUE-AM", "XX"))))
-
-    def test_print_session(self):
-        self.change("UPDATE candidate SET name = ? WHERE number = 1493", ["W" * 78 + "\u0085"])
-        self.office("import", "openings", self.write(
-            "openings.csv", "session,hall,desks,until,reserved\nMON-AM,LIB,6,09:01,yes\n"))
-        pages = self.office("print-session", "MON-AM", "--lines", "20").split("\f")
-        self.assertEqual(max(page.count("\n") for page in pages), 20)
-        self.assertEqual(max(len(line) for page in pages for line in page.split("\n")), 76)
-        self.assertRegex("".join(pages), r"(?m)^0001493 .* W+\n {8}W+\?$")
-        heads = [page.split("\n")[0] for page in pages]
-        self.assertIn("DOOR LIST session MON-AM hall GYM  page 2 of 2", heads)
-        self.assertEqual([head for head in heads if "LIB" in head], [])
-        self.assertEqual(heads[-1], "CLASHES session MON-AM")
-        text = self.office("print-session", "MON-PM", "--lines", "999")
-        [hall] = [page for page in text.split("\f") if page.startswith("DOOR LIST session MON-PM hall AULA\n")]
-        self.assertEqual(hall, self.office("door-list", "MON-PM", "AULA"))
-        self.assertIn("no session XX", self.refused("print-session", "XX"))
-        self.assertIn("10 lines", self.refused("print-session", "MON-AM", "--lines", "1"))
+            self.assertIn(said, "\n".join(self.faults("TUE-AM", lambda sheet: sheet.replace(old, new))))
+        for wrong in ("", "nonsense", "SHORTAGE session '; DROP\n"):
+            self.assertRaisesRegex(Trouble, "does not belong", reasons.read_sheet, wrong)
 
     def test_a_refused_sheet_prints_nothing(self):
         program = self.write("program", "#!/bin/sh\necho refused 24 >&2\nexit 1\n")
         os.chmod(program, 0o700)
-        for command in ("print-session", "session-page"):
-            self.assertRegex(self.refused(command, "MON-AM", EXAMOFFICE=program), "refused 24.*nothing is printed")
+        self.assertRegex(self.refused("why", "MON-AM", EXAMOFFICE=program), "refused 24.*nothing is printed")
 
     def test_signals_leave_nothing(self):
         slow = self.write("slow", "#!/bin/sh\nsleep 30\n")
         os.chmod(slow, 0o700)
         copies = os.path.join(self.desk, "tmp")
-        for command in ("print-session", "doors"):
+        for command in ("board", "doors"):
             for number in (signal.SIGHUP, signal.SIGINT, signal.SIGTERM):
                 environment = {**self.environment, "EXAMOFFICE": slow}
                 line = [sample.DESK / "office", command, "MON-AM"]
@@ -346,8 +320,8 @@ class Lost(unittest.TestCase):
 
 class NoOffice(sample.SampleSchool):
     def test_each_command_says_so(self):
-        commands = [["slips"], ["board", "S"], ["doors", "S"], ["counts", "S"], ["session-page", "S"], ["look", "x"],
-                    ["print-session", "S"], ["changes", "x"], ["dump", "x"], ["summary"], ["appeals-open"]]
+        commands = [["slips"], ["board", "S"], ["doors", "S"], ["counts", "S"], ["look", "x"],
+                    ["changes", "x"], ["dump", "x"], ["summary"], ["appeals-open"]]
         for words in commands:
             for text in (None, "", "rubbish" * 1000):
                 path = os.path.join(self.folder, "none.db") if text is None else self.write("rubbish.db", text)

@@ -8,7 +8,7 @@ import sqlite3
 import desk_client
 import sample
 import test_changing
-from exam_desk import changing, logbook, notebook
+from exam_desk import changing, notebook
 from exam_desk.running import NotStarted
 
 LEFT = "notebook-of-an-office-before-"
@@ -20,8 +20,6 @@ class NewOffice(test_changing.Changing):
         """The office of the year before is moved away without what lay beside it."""
         super().setUp()
         self.office("withdraw", "0001000", "MA-1")
-        logbook.write(self.value, ["close-hall", "MON-AM", "GYM"], 0, "closed")
-        self.assertEqual([*logbook.closings(self.value)], [("MON-AM", "GYM")])
         notebook.take_notes(self.value, {sample.NUMBER: "scribe"})
         notebook.keep_absent(self.value, "MON-AM", [sample.NUMBER], [])
         self.move_away()
@@ -43,7 +41,6 @@ class NewOffice(test_changing.Changing):
         self.assertEqual((notebook.notes(self.value), notebook.absent(self.value, "MON-AM")), ({}, None))
         self.assertEqual(sorted(os.listdir(os.path.join(self.desk, name))), ["absent.MON-AM.json", "notes.json"])
         self.assertEqual(self.log()[-2:], [["init", "begins", ""], ["init", "0", "ready"]])
-        self.assertEqual(logbook.closings(self.value), {})
 
     def test_its_copies_are_put_back(self):
         self.run_office("init")
@@ -55,15 +52,16 @@ class NewOffice(test_changing.Changing):
         self.run_office("init")
         notebook.take_notes(self.value, {"0000001": "own"})
         done = self.run_office("init")
-        self.assertEqual((done.stdout, done.stderr, len(self.aside())), ("ready\n", "", 1))
+        self.assertEqual((done.stdout, done.stderr, len(self.aside())), (
+            "ready\n", "office: NOTE the office was there already: nothing is changed\n", 1))
         self.assertEqual(changing.make_new(self.value).answer, "ready\n")
         self.assertEqual((notebook.notes(self.value), len(self.aside())), ({"0000001": "own"}, 1))
 
     def test_an_office_that_is_there_is_no_new_one(self):
         """Last year's, in the folder where `init` is given again."""
         done = self.run_office("init", OFFICE=f"{self.path}-2027")
-        self.assertEqual((done.returncode, done.stdout, done.stderr), (0, "ready\n", "office: NOTE the office is there "
-                         "already, with 60 candidates and 3 sessions: nothing is changed\n"))
+        self.assertEqual((done.returncode, done.stdout, done.stderr), (0, "ready\n", "office: NOTE the office was there "
+                         "already: nothing is changed\n"))
 
     def test_where_no_office_comes_it_is_back_in_its_place(self):
         before = sorted(os.listdir(self.desk))
@@ -75,7 +73,7 @@ class NewOffice(test_changing.Changing):
         self.assertEqual((sorted(os.listdir(self.desk)), self.said), (before, []))
 
     def test_where_no_folder_is_the_program_says_so(self):
-        self.assertIn("refused 23\n  the database cannot be used now\n  a process of another user has it; its folder is not there, or ",
+        self.assertIn("refused 23\n  the database cannot be used now: ",
                       self.refused("init", OFFICE=os.path.join(self.folder, "none", "office.db")))
 
     def test_where_nothing_was_left_nothing_is_said(self):

@@ -20,7 +20,7 @@ sys.path.insert(0, str(pathlib.Path(__file__).resolve().parents[1]))
 from exam_desk import beside, copies, files, logbook, notebook, on_paper  # noqa: E402
 from exam_desk.notebook import Rows  # noqa: E402
 from exam_desk.office import Office  # noqa: E402
-from exam_desk.on_paper import Desk  # noqa: E402
+from exam_desk.on_paper import Line  # noqa: E402
 from exam_desk.office import Trouble  # noqa: E402
 
 HOSTILE = '=1+1 "quoted", <b>bold</b> \u202eleft \u009b2J é'
@@ -101,14 +101,12 @@ class Notebook(unittest.TestCase):
         self.assertEqual(notebook.school_name(self.office), "")
 
     def test_printed(self):
-        desks = {"0000001": Desk("A", 1), "0000002": Desk("A", 2), "0000003": Desk("B", 1)}
-        with notebook.alone(self.office) as folder:
-            notebook.write(self.office, folder, "printed.S1", {number: [*desk, "0"] for number, desk in desks.items()})
-        self.assertEqual(({number: line.desk for number, line in on_paper.noted(self.office, "S1").lines.items()},
-                          on_paper.noted(self.office, "S2").lines), (desks, {}))
-        now = {"0000002": Desk("A", 1), "0000003": Desk("B", 1), "0000004": Desk("C", 1)}
-        self.assertEqual(on_paper.moved(desks, now), ["0000001", "0000002", "0000004"])
-        self.assertEqual(on_paper.moved(desks, desks), [])
+        lines = {"0000001": Line("A", 1), "0000002": Line("A", 2), "0000003": Line("B", 1)}
+        notebook.keep(self.office, "printed.S1", lambda _: {number: [*line[:2], "0"] for number, line in lines.items()})
+        self.assertEqual((on_paper.noted(self.office, "S1").lines, on_paper.noted(self.office, "S2").lines), (lines, {}))
+        now = {"0000002": Line("A", 1), "0000003": Line("B", 1), "0000004": Line("C", 1)}
+        self.assertEqual([move.number for move in on_paper.moves(lines, now)], ["0000001", "0000002", "0000004"])
+        self.assertEqual(on_paper.moves(lines, lines), [])
 
     def test_rows(self):
         notebook.keep_rows(self.office, "A", Rows(100, "down"))
@@ -172,6 +170,8 @@ class Notebook(unittest.TestCase):
             os.symlink(victim, self.place / name)
             if not name.endswith(".new"):
                 self.assertRaises(beside.Strange, notebook.school_name, self.office)
+                self.assertRaises(beside.Strange, notebook.set_school_name, self.office, "Dale")
+                (self.place / name).unlink()
         notebook.set_school_name(self.office, "Dale")
         self.assertEqual((notebook.school_name(self.office), victim.read_text()), ("Dale", '"stranger"'))
 
@@ -216,7 +216,7 @@ class Commands(sample.SampleSchool):
         self.assertIn("<small><bdi>your seats and appeals: https://hill.example/&lt;b&gt;</bdi></small>",
                       self.office("slips", "--only", "0001051"))
         self.assertNotIn("hill.example", self.office("board", "MON-AM"))
-        self.assertIn("the address of the candidates' page has 1 to 80 bytes", self.refused("school", "--page", "a\n"))
+        self.assertIn("an address has 1 to 80 bytes", self.refused("school", "--page", "a\n"))
         self.assertEqual(self.office("school", "", "--page", ""), "no name\n")
         self.assertEqual([line[2:] for line in logbook.last_lines(self.value)], [
             ["school", "0", "Hill"], ["school", "0", page], ["school", "0", "no page"], ["school", "0", "no name"]])
@@ -283,8 +283,8 @@ class Commands(sample.SampleSchool):
         self.office("rows", "GYM", "8")  # the other halls have no chart, since nobody said how their desks stand
         self.assertIn("nobody noted", self.refused("printed", "MON-AM", "--look"))
         foot = re.search("state [0-9a-f]{8}", self.office("board", "MON-AM"))[0]
-        self.assertEqual(self.office("printed", "MON-AM"), "58 desks noted and 2 candidates without one, of "
-                         f"{foot}: the foot of each paper must say that\n")
+        self.assertEqual(self.office("printed", "MON-AM"),
+                         f"58 desks noted, of {foot}: the foot of each paper must say that\n")
         self.assertEqual(self.office("printed", "MON-AM", "--look"), "the papers are up to date\n")
         seats = [line.split(",") for line in self.office("export", "MON-AM").splitlines()[1:]]
         number, paper, hall = next((seat[1], seat[2], seat[3]) for seat in seats if seat[4] == "1")
@@ -293,30 +293,24 @@ class Commands(sample.SampleSchool):
         self.assertTrue(any(re.fullmatch(rf"{number} \S.*: {hall} 1 -> .*", line) for line in lines), lines)
         self.assertFalse([line for line in lines if " :" in line], "whoever left has a name, too")
         self.assertIn(hall, re.findall("[A-Z0-9]+", lines[-1]))
-        self.assertRegex(self.office("printed", "MON-AM"),
-                         r"^\d+ desks noted.*, [1-9]\d* other than before, of state [0-9a-f]{8}: .*\n$")
+        self.assertRegex(self.office("printed", "MON-AM"), r"^\d+ desks noted, of state [0-9a-f]{8}: .*\n$")
         self.assertEqual(self.office("printed", "MON-AM", "--look"), "the papers are up to date\n")
         self.office("close-hall", "MON-AM", "GYM")
         self.office("withdraw", "0001119", "CS-1")  # so that somebody in another hall has another desk
         *moves, again, last = self.office("printed", "MON-AM", "--look").splitlines()
-        self.assertEqual(last, "to take away, as nobody sits there now: doors, signatures, poster, cards, chart of GYM")
+        self.assertEqual(last, "to take away, as nobody sits there now: the papers of GYM")
         halls = {place for line in moves for place in re.findall(r"(?:: |-> )([A-Z]\w+) \d+(?= ->|,|$)", line)}
         self.assertEqual(again, f"to print again: doors, signatures, poster, cards of {', '.join(sorted(halls - {'GYM'}))}; board, counts, slips")
         self.assertIn("PC1", again)
 
-    def test_the_log_and_the_notebook_say_who_noted_it(self):
-        before = datetime.datetime.now().isoformat(" ", "minutes")
+    def test_the_log_says_who_noted_it(self):
         answers = [self.office("printed", "MON-AM")]
         self.office("withdraw", "0001119", "CS-1")
         answers.append(self.office("printed", "MON-AM"))
-        self.assertIn("other than before", answers[1])
         lines = [line for line in logbook.last_lines(self.value) if line[2] == "printed MON-AM"]
         self.assertEqual([line[3:] for line in lines], [["0", answer[:-1]] for answer in answers])
         self.assertIsNone(logbook.unfinished(self.value))
-        paper = on_paper.noted(self.value, "MON-AM")
-        self.assertEqual(paper.who, lines[1][1])
-        self.assertTrue(before <= paper.when <= lines[1][0], (before, paper.when, lines))
-        self.assertEqual(len(paper.lines), 59)  # of 60, one of whom has left
+        self.assertEqual(len(on_paper.noted(self.value, "MON-AM").lines), 59)  # of 60, one of whom has left
 
     def test_who_has_no_desk(self):
         """They stand on the board and the copies, in no hall; a session may have nobody else."""
@@ -337,7 +331,7 @@ class Commands(sample.SampleSchool):
                            ("papers", "paper,title,session,minutes,requires\nART,Art,TUE-PM,60,-\n"),
                            ("entries", "number,paper\n0001051,ART\n")):
             self.office("import", kind, self.write("new.csv", rows))
-        self.assertIn("0 desks noted and 1 candidate without one, ", self.office("printed", "TUE-PM"))
+        self.assertIn("0 desks noted, ", self.office("printed", "TUE-PM"))
         self.assertEqual(self.office("printed", "TUE-PM", "--look"), "the papers are up to date\n")
         self.office("open-hall", "TUE-PM", "GYM", "90", "18:00")
         self.assertIn("0001051 Di Berg: no desk -> GYM 1\n", self.office("printed", "TUE-PM", "--look"))
@@ -361,7 +355,7 @@ class Commands(sample.SampleSchool):
             self.assertRegex(line, rf"^0001306 (Sami Nagy|Another Name): AULA 1, {said}$")
             self.assertIn("AULA", lines[-1], words)
             if words[0] == "notes":
-                self.assertEqual(lines[-1], "to print again: doors of AULA; slips (`office slips MON-AM --desks --only 0001306`)")
+                self.assertEqual(lines[-1], "to print again: doors of AULA; slips")
 
     def test_what_lines_share(self):
         """A line for a hall, a paper or the school, and none for each candidate; and the papers of the halls that show it."""
@@ -400,7 +394,7 @@ class Commands(sample.SampleSchool):
         other = self.write("other.csv", "number,text\n0001306,two\n")
         self.assertEqual(self.run_office("notes", other).stderr,
                          "1 session has printed papers that are out of date: MON-AM (doors of AULA; slips)\n"
-                         "`office printed MON-AM --look` lists them\n")
+                         "`office printed` lists them\n")
         self.assertEqual(self.run_office("notes", first).stderr, "")  # as on paper again
 
     def test_no_text_of_a_note_is_kept_with_what_is_printed(self):

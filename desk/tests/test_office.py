@@ -12,12 +12,12 @@ import sys
 import time
 import unittest
 from concurrent.futures import ThreadPoolExecutor
-from contextlib import closing, redirect_stderr, suppress
+from contextlib import closing, redirect_stderr
 from unittest import mock
 
 import sample
 import command
-from exam_desk import copies, refusals
+from exam_desk import copies, refusals, turns
 
 
 class Faults(unittest.TestCase):
@@ -71,8 +71,7 @@ class Words(sample.SampleSchool):
         os.mkfifo(pipe)
         for path in (pipe, self.folder):
             for words in (["import", "entries", path], ["what-if", "import", "--", "entries", path], ["notes", path],
-                          ["slips", "--order", path], ["reinstate", "--list", path],
-                          ["check-shortage", path]):
+                          ["slips", "--order", path], ["reinstate", "--list", path]):
                 self.assertIn(f"office: {path}: is no file, but a folder, a pipe", self.refused(*words))
         self.assertFalse(os.path.exists(os.path.join(self.desk, "log")))
         for path in ("-", "/dev/stdin"):
@@ -215,7 +214,6 @@ class Words(sample.SampleSchool):
                             (["lodge", "1051x", "mon-am"], "number '1051x': seven digits; session 'mon-am': write MON-AM (1 "
                              "to 12 of A-Z, 0-9 and -); kind of appeal is missing"),
                             (["lodge", "0001051", "MON-AM", "hall", "PC1"], "reason is missing"),
-                            (["lodge", "0001051", "arrangement", "quiet", "0", "x"], "session is missing\n"),
                             (["lodge", "0001051", "MON-AM", "arrangement", "-", "30%", "x"], "extra '30%': write 30")):
             done = self.run_office(*words)
             self.assertEqual((done.returncode, done.stdout), (2, ""), words)
@@ -288,7 +286,7 @@ class Words(sample.SampleSchool):
         self.assertIn("\nno hall of the office has all of reader, computer: needed by 1 candidate\nwhat could help",
                       self.office("why", "MON-AM"))
         tried = text.partition("what could help; only the program knows what it comes to, so try it:\n")[2].split("\n")
-        self.assertEqual(tried[0], "  office what-if open-hall TUE-AM LIB 4 14:00 --reserved  # could seat 2 of 2; now 2 desks "
+        self.assertEqual(tried[0], "  office what-if open-hall TUE-AM LIB 4 14:00 --reserved  # could seat up to 2 of 2; now 2 desks "
                                    "until 14:00, reserved")
         self.assertIn("\n2 get desks\n", self.office(*tried[0].partition("#")[0].split()[1:]))
         self.assertEqual(tried[-1:], [""])
@@ -310,42 +308,33 @@ class Words(sample.SampleSchool):
 
 
 class Causes(sample.SampleSchool):
-    def cause(self):
+    def causes(self):
+        """What is said below refusal 23: its causes, who has the file, if somebody has it, and that nothing is lost."""
         lines = self.refused("withdraw", "0001000", "MA-1").split("\n")
-        self.assertEqual(lines[:2], ["refused 23", "  the database cannot be used now"])
-        self.assertEqual(lines[3:], ["  a command is there whole or not at all: look, or give it again", ""])
+        self.assertEqual(lines[:2], ["refused 23", f"  {refusals.SENTENCES[23]}"])
+        self.assertEqual(lines[-2:], ["  a command is there whole or not at all: look, or give it again", ""])
         self.assertFalse(os.listdir(os.path.join(self.desk, "copies")))
-        return lines[2]
+        return lines[2:-2]
 
-    def test_all_that_may_be_the_cause(self):
+    def test_a_second_hard_link(self):
         os.link(self.path, os.path.join(self.folder, "other.db"))
-        self.assertIn("it has a second name (a hard link", self.cause())
-        os.remove(os.path.join(self.folder, "other.db"))
-        self.write("office.db-journal", "x")
-        self.assertIn("a -journal of sqlite3 lies beside it", self.cause())
+        self.assertEqual(self.causes(), [])
 
     def test_a_folder_and_a_pipe(self):
         pipe = os.path.join(self.folder, "pipe.db")
         os.mkfifo(pipe)
         for path in self.folder, pipe:
             for words in (["check"], ["shortage", "MON-AM"], ["withdraw", "0001000", "MA-1"]):
-                self.assertIn("it is a folder or a pipe", self.refused(*words, OFFICE=path))
+                self.assertIn("it is a folder, a pipe or no whole database", self.refused(*words, OFFICE=path))
         self.assertIn("is no file", self.refused("why", "MON-AM", OFFICE=pipe))
         self.assertFalse(os.path.exists(os.path.join(self.folder, "desk-pipe.db")))
-
-    def test_a_file_cut_short(self):
-        with open(self.path, "r+b") as file:
-            file.truncate(os.path.getsize(self.path) - 100)
-        with suppress(FileNotFoundError):
-            os.remove(self.path + "-wal")
-        self.assertIn("it was cut short", self.cause())
 
     def test_a_serve(self):
         line = [sample.built_program(), "--db", self.path, "--today", sample.TODAY, "serve", str(sample.free_port())]
         with subprocess.Popen(line, stdout=subprocess.PIPE) as process:
             try:
                 process.stdout.readline()
-                self.assertIn(f"process {process.pid} has it (", self.cause())
+                self.assertEqual(self.causes(), [f"  process {process.pid} ({' '.join(line)}) has it"])
                 self.assertIn("unseated 2", self.office("shortage", "MON-AM"))  # a sheet is made from a copy
             finally:
                 process.terminate()
@@ -364,13 +353,11 @@ class Causes(sample.SampleSchool):
             self.assertEqual(done.result(), "withdrawn\n")
 
     def test_who_has_the_file_is_named(self):
-        """A `serve` is not waited for."""
-        for words, is_busy in (["sleep", "60"], True), (["sh", "-c", "sleep 60", "serve", "1"], False):
-            with open(self.path, "rb") as file, subprocess.Popen(words, stdin=file) as process:
-                sample.until(lambda: words[0] in refusals.holder(self.value))
-                self.assertIn(f"process {process.pid} has it ({' '.join(words)})", refusals.holder(self.value))
-                self.assertEqual(refusals.is_busy(self.value), is_busy)
-                process.kill()
+        with open(self.path, "rb") as file, subprocess.Popen(["sleep", "60"], stdin=file) as process:
+            sample.until(lambda: refusals.holder(self.value))
+            self.assertEqual(refusals.holder(self.value), f"process {process.pid} (sleep 60)")
+            self.assertEqual(refusals.patience(self.value), turns.PATIENCE)
+            process.kill()
 
     def test_what_was_overwritten(self):
         self.write("office.db", b"x" * 4096)
@@ -509,8 +496,8 @@ class Back(sample.SampleSchool):
             file.rollback()
         done = self.run_office("withdraw", "0001000", "MA-1")
         self.assertEqual((done.stdout, done.returncode), ("withdrawn\n", 0))
-        self.assertRegex(done.stderr, "^office: `import entries .*/late.csv for 0001000 FR` of .* was broken off; "
-                                      "facts and seats are as before it: give it again\n1 leaves a session: ")
+        self.assertRegex(done.stderr, "^office: `import entries .*/late.csv for 0001000 FR` of .* was broken off, "
+                                      "and the office is as before: give it again\n1 leaves a session: ")
         self.assertEqual(self.office("reinstate", "0001000", "MA-1"), "reinstated\n")
 
 

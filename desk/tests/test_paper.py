@@ -9,17 +9,13 @@ import shutil
 import sqlite3
 import subprocess
 import unittest
-from unittest import mock
 
 import sample
 from cells import Cells
 
 from exam_desk import snapshot  # beside the tests' folder
-from exam_desk.reading import Reading
-from exam_desk.sheets import session_page
 
-PAGES = [["slips"], *([name, "MON-AM"] for name in ("board", "doors", "signatures", "poster", "cards", "chart",
-                                                   "counts", "session-page"))]
+PAGES = [["slips"], *([name, "MON-AM"] for name in ("board", "doors", "signatures", "poster", "cards", "chart", "counts"))]
 LONG = ["W" * 80, "von " * 19 + "Hohe", "\u5c71\u7530" * 13, "e\u0301" * 26, "a" + "\u0335\u0321" * 19]  # of 80 bytes
 # Counts cards whose last line stands below them, texts of cards that are cut, and the heights of a chart's rows.
 LOOK = """<script>
@@ -66,10 +62,7 @@ class Papers(sample.SampleSchool):
     def test_slips_by_group(self):
         path = self.write("forms.csv", 'number,group\n1051,10B\n0001000,"<i>=10A"\n0001017,10B\n9999999,10A\n'
                                        "0001034,\n")
-        done = self.run_office("slips", "--order", path)
-        self.assertEqual(done.stderr, "office: the file has 1 number that no candidate of the office has: 9999999\n"
-                                      "office: in no group, and so last: 57 candidates\n")
-        groups = done.stdout.split("<div class=sheet><h2><bdi>")[1:]
+        groups = self.office("slips", "--order", path).split("<div class=sheet><h2><bdi>")[1:]
         self.assertEqual([text.partition("</bdi>")[0] for text in groups], ["10B", "&lt;i&gt;=10A", "in no group"])
         slips = [re.findall(r"<span>number (\d{7})</span>", text) for text in groups]
         self.assertEqual((slips[:2], len(slips[2])), ([["0001051", "0001017"], ["0001000"]], 57))
@@ -150,27 +143,6 @@ class Papers(sample.SampleSchool):
         self.assertEqual(halls[-1][0], "no desk")
         self.assertIn(["Library (LIB)", "Chemistry (CH-1)", "1", "12:00"], halls)
 
-    def test_session_page(self):
-        self.office("school", "Hill <School>")
-        text = self.office("session-page", "TUE-AM")
-        self.assertEqual(Cells(text).strange, set())
-        for part in ("<p><bdi>Hill &lt;School&gt;</bdi><br>Tuesday, 8 June 2027, starts",
-                     "48 candidates: 46 seated, 2 without a desk.", "4 candidates = 2 desks + 2 unseated",
-                     "Each of these 4 candidates can sit only in LIB, which has 2 desks.",
-                     "What would help: more desks there, or another hall that suits some of them.<",
-                     self.office("why", "TUE-AM").partition("what could help")[0]):
-            self.assertIn(part, text)
-        self.assertIn("no session XX", self.refused("session-page", "XX"))
-        drawn = []
-        for most in (4, 3):  # four are on the sheet: two sit in LIB, and two have no desk
-            with Reading(self.value) as reading, mock.patch.object(session_page, "MOST_DRAWN", most):
-                text = session_page.Page(reading, "TUE-AM").document().partition("<div class=cards>")[2]
-                drawn.append(re.findall(r"<ol>(.*?)</ol>", text))
-        self.assertEqual([[chips.count("<li>") for chips in lists] for lists in drawn], [[2, 2], [0, 2]])
-        self.office("open-hall", "TUE-AM", "LIB", "2", "10:00")
-        self.assertIn("What would help: another hall that suits some of them, or a hall open for longer.<",
-                      self.office("session-page", "TUE-AM"))
-
     def change(self, *statements):
         """Changes rows that no seat depends on."""
         with contextlib.closing(sqlite3.connect(self.path)) as file:
@@ -188,8 +160,7 @@ class Papers(sample.SampleSchool):
 
     def test_hostile_names(self):
         self.make_hostile()
-        for words in (["slips", "--codes", "--desks"], ["board", "MON-AM"], ["doors", "MON-AM"], ["counts", "MON-AM"],
-                      ["session-page", "MON-AM"]):
+        for words in (["slips", "--codes", "--desks"], ["board", "MON-AM"], ["doors", "MON-AM"], ["counts", "MON-AM"]):
             text = self.office(*words)
             page = Cells(text)
             self.assertEqual((page.strange, re.findall("[\u0080-\u009f\u202a-\u202e\u2028]", text)), (set(), []), words)
@@ -208,7 +179,7 @@ class Papers(sample.SampleSchool):
             shutil.copy2(whole, self.path)
             self.change(change)
             for words in (["slips", "--codes"], ["board", "MON-AM"], ["doors", "MON-AM"], ["counts", "MON-AM"],
-                          ["session-page", "MON-AM"], ["changes", whole], ["look", "Berg"], ["summary"]):
+                          ["changes", whole], ["look", "Berg"], ["summary"]):
                 done = self.run_office(*words)
                 self.assertNotRegex(done.stdout + done.stderr, "<img>|<script>|[\x80-\x9f]|Traceback")
                 if done.returncode:
@@ -304,7 +275,7 @@ class Papers(sample.SampleSchool):
                 rows = table.partition("<tbody>")[2].count("<tr>") - table.count("<td class=below")
                 self.assertEqual(table.count("<th scope=row"), rows, words)
         self.assertEqual(re.findall("<title>(.*)</title>", text), ["Slips MON-AM, 0001051"])
-        self.assertIn('content: "Slips, printed ', text)
+        self.assertIn('content: "Slips MON-AM, 0001051, printed ', text)
         self.assertRegex(text, "<td class=top colspan=4><span>access code VMGNZGEDP9</span>.*<h2><bdi>Di Berg</bdi>")
         self.assertRegex(self.office("doors", "MON-AM", "LIB"), r"<h2><bdi>Library<[\s\S]*<th scope=row><bdi>Jana Roe<")
         self.assertRegex(self.office("chart", "MON-AM", "PC1"), "aria-label='PC1'><thead><tr><td colspan=4><h1>")
@@ -329,8 +300,6 @@ class Papers(sample.SampleSchool):
                           ["Paper, all halls", "Copies", "Last finish"], [named, "1", "13:00"]])
         self.assertIn(f"<p>{named}</p>", re.sub("</?(bdi|small)>", "", self.office("cards", "MON-AM-2")))
         self.assertEqual(self.rows("chart", "MON-AM-2")[1][0], "1Henrik Haddad 0001561 MA-1-2 (MA-1)")
-        self.assertIn(["1", "0001561", "Henrik Haddad", "MA-1-2 (MA-1)"],
-                      [row[:4] for row in self.rows("session-page", "MON-AM-2")])
         slip = self.rows("slips", "--only", "0001561")
         self.assertEqual([row[2] for row in slip[2:4]], ["Latin (LAT)", named])
         letter = csv.DictReader(self.office("slips", "--csv", "--only", "0001561").removeprefix("\ufeff").split("\n"))

@@ -150,7 +150,7 @@ class Posters(sample.SampleSchool):
         self.assertEqual(rows[0][1][:len(str(depth + 1))], str(depth + 1))
         for words in (["X", "4"], ["AULA"], ["AULA", "0"], ["AULA", "101"]):
             self.refused("rows", *words)
-        self.assertEqual(self.run_office("rows", "AULA", "4", "sideways").returncode, 2)
+        self.assertIn("their numbers run across, ", self.refused("rows", "AULA", "4", "sideways"))
 
     def test_hostile_names(self):
         for place, name in enumerate(test_paper.HOSTILE):

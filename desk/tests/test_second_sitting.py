@@ -74,7 +74,7 @@ class There(SecondSitting):
         self.assertEqual(said.split("\n")[:4], [
             "session MON-AM-2 (new) at 10:30, paper MA-1-2 (new), hall R14 with 1 desk",
             "0000003 ?Bo, =1+1 sits LAT until 10:30 (has no desk), and MA-1-2 from 10:30 to 12:30 in R14, desk 1",
-            "1 joins a session", "session MON-AM-2: 1 candidate, 0 without a desk"])
+            "1 joins a session", "done; `office changes 1` says who must be told, `office back 1` takes it back"])
         self.assertEqual(self.seats("MON-AM-2"), {"0000003": ("MA-1-2", "R14", "1")})
         self.assertEqual(self.seats("MON-AM")["0000003"][0], "LAT")
         self.assertNotIn("0000003", self.office("clashes", "MON-AM"))
@@ -309,6 +309,37 @@ class Back(SecondSitting):
         self.refuses("the office has no paper ", "0000003", "", "--undo")
         self.office("withdraw", "0000003", "MA-1-2")
         self.refuses("0000003 has no second sitting of MA-1", "0000003", "MA-1", "--undo")
+
+
+class LeftBehind(SecondSitting):
+    def stay(self, kind, text):
+        """What is said of second sittings where a file were imported."""
+        said = self.office("what-if", "import", kind, self.write(f"{kind}.csv", text))
+        return [line for line in said.split("\n") if "second sitting" in line]
+
+    def test_a_paper_or_its_session_is_changed(self):
+        said = [str(second_sitting.STAYS).format(papers="MA-1-2")]
+        self.second(*ONE)
+        sessions = "session,date,start\nMON-AM,2027-06-14,09:00\n"
+        paper = "paper,title,session,minutes,requires\nMA-1,Sums,MON-AM,120,-\n"
+        self.assertEqual(self.stay("sessions", sessions), said)
+        self.assertEqual(self.stay("sessions", f"{sessions}MON-AM-2,2027-06-14,10:30\n"), [])
+        self.assertEqual(self.stay("sessions", "session,date,start\nTUE-AM,2027-06-14,09:00\n"), [])
+        self.assertEqual(self.stay("papers", paper), said)
+        self.assertEqual(self.stay("papers", f"{paper}MA-1-2,Sums,MON-AM-2,120,-\n"), [])
+        done = self.run_office("import", "papers", self.write("papers.csv", paper))
+        self.assertEqual(done.stderr.split("\n")[0], said[0])
+        self.second(*ONE[:2], "--undo")
+        self.assertEqual(self.stay("papers", paper.replace("120", "90")), [])
+
+    def test_a_page_says_it_in_the_language_of_the_reader(self):
+        from flask import Flask
+
+        from exam_web import wording
+        with Flask(__name__).test_request_context(headers={"Accept-Language": "de"}):
+            said = wording.said(second_sitting.Said(second_sitting.STAYS, {"papers": ["A-2", "<b>"]}))
+        self.assertIn("<bdi>A-2</bdi>, <bdi>&lt;b&gt;</bdi>", said)
+        self.assertTrue(said.startswith("HINWEIS: zweite Sitzungen bleiben"), said)
 
 
 class Pairs(SecondSitting):

@@ -71,9 +71,8 @@ def cells(tags: Iterable[str], values: Iterable[object], kinds: Iterable[str]) -
 
 def table(label: str, heads: Sequence[str], rows: Iterable[Sequence[object]], above: Markup = Markup(),
           below: Markup = Markup()) -> Markup:
-    """A table, with a label for who does not see it. A head says the kind of its column before a colon, as in `n:Desk`.
-    What heads a row is its name, or else its first cell. What stands above comes on each page again, as the heads do;
-    what stands below is the last row."""
+    """A table with a label for who does not see it. A head can say the kind of its column, as in `n:Desk`. A row is
+    headed by its name, or its first cell. What stands above comes on each page again, what stands below is a row."""
     kinds, words = zip(*(HEAD.findall(head)[0] for head in heads))
     tags = ["td"] * len(heads)
     tags[words.index("Name") if "Name" in words else 0] = "th scope=row"
@@ -85,16 +84,15 @@ def table(label: str, heads: Sequence[str], rows: Iterable[Sequence[object]], ab
                   f"<tbody>\n{body}\n{under}</tbody></table>\n")
 
 
-def document(reading: Reading, title: str, body: Markup, *names: str, of: str = "") -> str:
-    """Pages of A4 with the styles of these names. The foot of each has the title, the time, and the state. On a screen
-    they stand once, above all, with what the document is of where its title does not say it."""
+def document(reading: Reading, title: str, body: Markup, style: str) -> str:
+    """Pages of A4 in a style. Title, time and state are in the foot of each, and on a screen once, above all."""
     printed = f"printed {reading.office.now():%Y-%m-%d %H:%M:%S}, state {reading.mark}"
     quoted = re.sub(r"[^\w ,.:-]", lambda sign: rf"\{ord(sign[0]):x} ", f"{title}, {printed}")  # as a text of a style
-    styles = "".join(f"\n{(STYLES / f'{name}.css').read_text('utf-8')}" for name in ("page", *names))
-    return str(html(DOCUMENT, f"{title} {of}".strip(), printed, Markup(quoted), Markup(styles), body))
+    styles = "".join(f"\n{(STYLES / f'{name}.css').read_text('utf-8')}" for name in ("paper", style))
+    return str(html(DOCUMENT, title, printed, Markup(quoted), Markup(styles), body))
 
 
-def school(office: Office, behind: str = "") -> Markup:
-    """The name of the school and what stands behind it; nothing where no name was given."""
+def with_school(office: Office, *parts: object, between: str = "<br>") -> Markup:
+    """Parts behind the name of the school, where one was given."""
     name = notebook.school_name(office)
-    return html("{}{}", text(name), Markup(behind)) if name else Markup()
+    return joined([*([text(name)] if name else []), *parts], between)

@@ -1,36 +1,33 @@
-"""The papers of a session: a notice board, posters, desk cards, seating charts, copies to print, invigilators' sheets.
-
-Who asks for halls gets their sheets alone, as `lists.halls` has them. Besides, who must be told of changes.
-"""
+"""The papers of a session: a notice board, posters, desk cards, seating charts, copies to print, lists to sign,
+invigilators' sheets. Besides, who must be told of changes."""
+import functools
 import sqlite3
 import unicodedata
 from collections import Counter, defaultdict
-from collections.abc import Collection, Iterable, Iterator, Mapping, Sequence
+from collections.abc import Callable, Collection, Iterable, Iterator, Mapping, Sequence
 
 from markupsafe import Markup
 
 from exam_desk import facts, lists, notebook, on_paper, overlaps, second_sitting, telling
-from exam_desk.lists import fold
 from exam_desk.notebook import Rows
-from exam_desk.on_paper import SHOWN, Desk, Line
-from exam_desk.reading import Member, Reading, Sitting
-from exam_desk.sheets.pages import (CODE, HEADED, document, hall_names, html, joined, paper_names, safe, school, table,
-                                    text)
-from exam_desk.telling import Change
 from exam_desk.office import Trouble
+from exam_desk.reading import Member, Reading, Sitting
+from exam_desk.sheets.pages import (CODE, HEADED, document, hall_names, html, joined, paper_names, safe, table, text,
+                                    with_school)
+from exam_desk.telling import Change
 from exam_desk.words import clock, long_day, short_day
 
-BOARD = "<h1>{}{}</h1>\n<p class=legend>{}</p>\n<div class=columns>{}</div>\n"
+BOARD = "<h1>{}</h1>\n<p class=legend>{}</p>\n<div class=columns>{}</div>\n"
 ASK = Markup("<b>ask the office</b>")  # in place of a hall
 # What stands in a head of a table comes on each page again.
-POSTER = ("<table class=door role=none><thead><tr><td><h1>{}</h1>\n<h2>{}</h2>\n<p>{}{} &middot; {}</p></td></tr>"
+POSTER = ("<table class=door role=none><thead><tr><td><h1>{}</h1>\n<h2>{}</h2>\n<p>{} &middot; {}</p></td></tr>"
           "</thead>\n<tbody><tr><td><div class=columns>{}</div></td></tr></tbody></table>")
 CARD = "<div class=card><b>{}</b><h2>{}</h2><p>{}</p><p>{}</p><p>{}</p></div>"
 CARDS = 10  # on a page
 UPRIGHT = 12  # desks in a row at most where a page is upright
 NO_PLACE, FREE = Markup("<td class=none></td>"), Markup("<span class=screen> free</span>")
 CHART = ("<table class='{0}' style='--across: {1}' aria-label='{3}'><thead><tr><td colspan={1}><h1>{2} ({3})</h1>\n"
-         "<p>{4}{5}. Front of the hall above. {6}</p></td></tr></thead>\n<tbody>\n{7}</tbody></table>")
+         "<p>{4}. Front of the hall above. {5}</p></td></tr></thead>\n<tbody>\n{6}</tbody></table>")
 COPIES = ["Hall", "Paper", "n:Copies", "n:Last finish", "box:Spare", "box:Packed"]
 ALL_COPIES = ["Paper, all halls", "n:Copies", "n:Last finish"]
 TOLD = ["w:Session", "w:Number", "Name", "Before", "Now", "box:Told"]
@@ -54,178 +51,155 @@ MARKS = {"Mn", "Me", "Cf"}  # stand over other letters, or nowhere
 Row = tuple[list[object], float]  # the cells of a candidate, and how high they are
 
 
-def when(reading: Reading, session: str) -> Markup:
-    head = facts.session_row(reading.rows, session)
-    return html("{}, {} ({})", long_day(head["day"]), clock(head["start"]), session)
+class Session:
+    """What the papers of a session share. The halls are those that are asked for, or all in which somebody sits."""
+
+    def __init__(self, reading: Reading, code: str, asked: Collection[str]) -> None:
+        """Raises `Trouble` where there is no such session, and as `lists.halls`."""
+        head = facts.session_row(reading.rows, code)
+        self.reading, self.rows, self.office, self.code = reading, reading.rows, reading.office, code
+        self.members, self.halls = reading.members(code), lists.halls(reading, code, asked)
+        self.when = html("{}, {} ({})", long_day(head["day"]), clock(head["start"]), code)
+        self.heading = with_school(self.office, self.when)
+        self.printed = on_paper.noted(self.office, code).lines
+        self.namesakes = Counter(lists.fold(member.name) for member in self.members)
+
+    @functools.cached_property
+    def others(self) -> dict[str, list[str]]:
+        """A line on each other session that is in a hall at the same time."""
+        return overlaps.in_halls(self.reading, self.code)
+
+    def expected(self, hall: str, there: Collection[Member]) -> Markup:
+        return joined([lists.count(len(there), "candidate"), *self.others.get(hall, [])], "<br>")
+
+    def name(self, member: Member) -> Markup:
+        """The name of a member, with the number where the session has namesakes."""
+        is_alone = self.namesakes[lists.fold(member.name)] == 1
+        return text(member.name) if is_alone else html("{} <small class=w>{}</small>", text(member.name), member.number)
+
+    def desk(self, member: Member) -> Markup:
+        """The desk of a candidate, with the one that was printed where that is another."""
+        hall, desk = member.sitting.hall, member.sitting.desk
+        line = self.printed.get(member.number)
+        if not self.printed or line and line[:2] == (hall, desk):
+            return safe(desk)
+        was = f"was {line.desk if line.hall == hall else f'{line.hall} {line.desk}'}" if line and line.hall else "new"
+        return html("{} <small>{}</small>", desk, was)
 
 
-def of_desks(reading: Reading, session: str, title: str, sheets: Iterable[Markup], name: str) -> str:
-    """A document of sheets on who has a desk in a session, each on pages of its own; or why there is none."""
-    found = joined(html("<div class=sheet>{}</div>\n", sheet) for sheet in sheets)
-    people = len(reading.members(session))
-    why = html("{}, none has a desk: <code>office why {}</code> says why", lists.count(people, "candidate"), session)
-    none = html("<h2>{}{}</h2>\n<p>{}</p>\n", school(reading.office, "<br>"), when(reading, session),
-                why if people else "nobody is entered")
-    return document(reading, f"{title} {session}", found or none, "paper", name)
+def page(reading: Reading, name: str, session: str, asked: Collection[str] = ()) -> str:
+    """A paper of a session, by its name in PAPERS; of all halls, or of some. Raises `Trouble` as `Session`."""
+    of = Session(reading, session, asked)
+    title, style, sheets = PAPERS[name]
+    found = joined(html("<div class=sheet>{}</div>\n", sheet) for sheet in sheets(of))
+    why = html("{}, none has a desk: <code>office why {}</code> says why", lists.count(len(of.members), "candidate"),
+               session) if of.members else "nobody is entered"
+    return document(reading, f"{title} {session}", found or html("<h2>{}</h2>\n<p>{}</p>\n", of.heading, why), style)
 
 
-def desk(member: Member, before: Mapping[str, Line]) -> Markup:
-    """The desk of a candidate, with the one that was printed where that is another."""
-    now, line = Desk(member.sitting.hall or "", member.sitting.desk or 0), before.get(member.number)
-    old = line.desk if line else Desk("", 0)
-    if not before or old == now:
-        return safe(now.desk)
-    was = f"was {old.desk}" if old.hall == now.hall else f"was {old.hall} {old.desk}"
-    return html("{} <small>{}</small>", now.desk, was if old.hall else "new")
+def board(of: Session) -> Iterator[Markup]:
+    """By name, with the hall and the desk."""
+    rows = [[of.name(each), each.sitting.hall or ASK, of.desk(each) if each.sitting.hall else ""]
+            for each in lists.by_name(of.members)]
+    legend = joined((html("<b>{}</b> {}", opening.hall, text(opening.title)) for opening, _ in of.halls), "<br>")
+    yield html(BOARD, of.heading, legend, table("Candidates by name", ["Name", "w:Hall", "n:Desk"], rows, of.when))
 
 
-def named(members: Collection[Member]) -> dict[str, Markup]:
-    """The names of all members of a session by their numbers, which stand beside the names of namesakes alone."""
-    names = Counter(fold(member.name) for member in members)
-    return {number: text(name) + (html(" <small class=w>{}</small>", number) if names[fold(name)] > 1 else "")
-            for number, name, _ in members}
+def poster(of: Session) -> Iterator[Markup]:
+    """For the door of each hall: names with desks and nothing private."""
+    for opening, there in of.halls:
+        rows = [[of.name(each), each.sitting.desk] for each in lists.by_name(there)]
+        yield html(POSTER, fitted(text(opening.title), ON_POSTER), of.when,
+                   with_school(of.office, opening.hall, between=" &middot; "), of.expected(opening.hall, there),
+                   table(opening.hall, ["Name", "n:Desk"], rows))
 
 
-def board(reading: Reading, session: str) -> str:
-    """A notice board, by name."""
-    members = lists.by_name(reading.members(session))
-    names = named(members)
-    titles, printed = facts.hall_titles(reading.rows), on_paper.noted(reading.office, session).lines
-    used = sorted({member.sitting.hall for member in members if member.sitting.hall})
-    legend = joined((html("<b>{}</b> {}", code, text(titles[code])) for code in used), "<br>")
-    moment = when(reading, session)
-    rows = [[names[each.number], each.sitting.hall or ASK, desk(each, printed) if each.sitting.hall else ""]
-            for each in members]
-    body = html(BOARD, school(reading.office, "<br>"), moment, legend,
-                table("Candidates by name", ["Name", "w:Hall", "n:Desk"], rows, moment))
-    return document(reading, f"Notice board {session}", body, "paper", "board")
-
-
-def poster(reading: Reading, session: str, asked: Collection[str] = ()) -> str:
-    """Posters for the doors: each hall from a page of its own on, names with desks and nothing private."""
-    moment, name, names = when(reading, session), school(reading.office, " &middot; "), named(reading.members(session))
-    others = overlaps.in_halls(reading, session)
-    return of_desks(reading, session, "Posters", (
-        html(POSTER, fitted(text(opening.title), ON_POSTER), moment, name, opening.hall,
-             joined([lists.count(len(there), "candidate"), *others.get(opening.hall, [])], "<br>"),
-             table(opening.hall, ["Name", "n:Desk"],
-                   [[names[each.number], each.sitting.desk] for each in lists.by_name(there)]))
-        for opening, there in lists.halls(reading, session, asked)), "poster")
-
-
-def cards(reading: Reading, session: str, asked: Collection[str] = ()) -> str:
-    """Cards for desks, by hall and desk, ten on a page; each hall begins one. Without what others need not know."""
-    papers, sheets = paper_names(reading.rows), list[Markup]()
-    for opening, there in lists.halls(reading, session, asked):
+def cards(of: Session) -> Iterator[Markup]:
+    """By hall and desk, ten on a page; each hall begins one. Without what others need not know."""
+    papers = paper_names(of.rows)
+    for opening, there in of.halls:
         found = [html(CARD, sits.desk, fitted(text(name), ON_CARD), number, fitted(papers[sits.paper], LINES_OF_CARD),
                       fitted(html("{}, {}, {}", short_day(sits.date), sits.start, text(opening.title)), LINES_OF_CARD))
                  for number, name, sits in there]
-        sheets += (joined(found[at:at + CARDS], "\n") for at in range(0, len(found), CARDS))
-    return of_desks(reading, session, "Desk cards", sheets, "cards")
+        yield from (joined(found[at:at + CARDS], "\n") for at in range(0, len(found), CARDS))
 
 
-def not_drawn(reading: Reading, session: str, asked: Collection[str] = ()) -> list[str]:
-    """The halls among them of which nobody has said how their desks stand."""
-    rows = notebook.rows_of_halls(reading.office)
-    return [opening.hall for opening, _ in lists.halls(reading, session, asked) if opening.hall not in rows]
-
-
-def chart(reading: Reading, session: str, asked: Collection[str] = ()) -> str:
-    """Seating charts: halls as rows of desks, with who sits where. A warning names halls of which there is none. Raises
-    `Trouble` where there is no other."""
-    halls, rows = lists.halls(reading, session, asked), notebook.rows_of_halls(reading.office)
-    moment, name, papers = when(reading, session), school(reading.office, ". "), paper_names(reading.rows, CODE)
-    others = overlaps.in_halls(reading, session)
-    if unknown := not_drawn(reading, session, asked):
+def chart(of: Session) -> Iterator[Markup]:
+    """Halls as rows of desks, with who sits where. `Trouble` where nobody has said of any hall how its desks stand."""
+    rows, papers = notebook.rows_of_halls(of.office), paper_names(of.rows, CODE)
+    if unknown := [opening.hall for opening, _ in of.halls if opening.hall not in rows]:
         said = (f"no chart of {', '.join(unknown)} yet: say once how the desks stand, `office rows {unknown[0]} 8` for "
                 "rows of 8 desks")
-        if len(unknown) == len(halls):
+        if len(unknown) == len(of.halls):
             raise Trouble(said)
-        reading.office.warn(said)
-    return of_desks(reading, session, "Seating charts", (
-        html(CHART, "chart wide" if stand.across > UPRIGHT else "chart", stand.across, text(opening.title),
-             opening.hall, name, moment,
-             joined([lists.count(len(there), "candidate"), *others.get(opening.hall, [])], "<br>"),
-             joined(drawn(opening.desks, there, stand, papers)))
-        for opening, there in halls if (stand := rows.get(opening.hall))), "chart")
+        of.office.warn(said)
+    for opening, there in of.halls:
+        if stand := rows.get(opening.hall):
+            seated = {sits.desk: html("{} {} {}", fitted(text(name), ON_CHART), number, papers[sits.paper])
+                      for number, name, sits in there}
+            yield html(CHART, "chart wide" if stand.across > UPRIGHT else "chart", stand.across, text(opening.title),
+                       opening.hall, with_school(of.office, of.when, between=". "), of.expected(opening.hall, there),
+                       joined(drawn(line, seated) for line in numbered(opening.desks, stand)))
 
 
-def drawn(desks: int, members: Iterable[Member], rows: Rows, papers: Mapping[str, Markup]) -> Iterator[Markup]:
-    """The rows of desks of a hall, with who sits there."""
-    seated = {sits.desk: html("{} {} {}", fitted(text(name), ON_CHART), number, papers[sits.paper])
-              for number, name, sits in members}
-    for line in numbered(desks, rows):
-        yield html("<tr>{}</tr>\n", joined(
-            html("<td><b>{}</b>{}</td>", place, seated.get(place, FREE)) if place else NO_PLACE for place in line))
+def drawn(line: Iterable[int | None], seated: Mapping[int | None, Markup]) -> Markup:
+    """A row of desks, with who sits there."""
+    return html("<tr>{}</tr>\n", joined(
+        html("<td><b>{}</b>{}</td>", place, seated.get(place, FREE)) if place else NO_PLACE for place in line))
 
 
 def numbered(desks: int, rows: Rows) -> list[list[int | None]]:
-    """The numbers of the desks of a hall, row by row from the front; None where no desk stands. The last row may be
-    short, and so may the columns that end there."""
-    depth = -(-desks // rows.across)
-    is_across, turns_back = rows.running.startswith("across"), "-and-" in rows.running
-    last = desks - (depth - 1) * rows.across  # desks of the last row
-    lengths = [rows.across] * depth if is_across else [depth - (column >= last) for column in range(rows.across)]
-    places = [(line, length - 1 - place if turns_back and line % 2 else place)
-              for line, length in enumerate(lengths) for place in range(length)]
-    grid: list[list[int | None]] = [[None] * rows.across for _ in range(depth)]
-    for number, (line, place) in zip(range(1, desks + 1), places):
-        row, column = (line, place) if is_across else (place, line)
-        grid[row][column] = number
-    return grid
+    """The numbers of the desks of a hall, row by row from the front; None where no desk stands."""
+    stand, turns_back = [divmod(place, rows.across) for place in range(desks)], "-and-" in rows.running
+    if rows.running.startswith("across"):
+        order = [(row, rows.across - 1 - column if turns_back and row % 2 else column) for row, column in stand]
+    else:
+        order = sorted(stand, key=lambda place: (place[1], -place[0] if turns_back and place[1] % 2 else place[0]))
+    numbers = {place: number for number, place in enumerate(order, 1)}
+    return [[numbers.get((row, column)) for column in range(rows.across)] for row in range(stand[-1][0] + 1)]
 
 
-def counts(reading: Reading, session: str) -> str:
+def counts(of: Session) -> Iterator[Markup]:
     """How many copies of each paper each hall needs, and the last finish, with boxes for spare ones and to tick."""
-    papers = paper_names(reading.rows)
-    halls = {"": Markup("<b>no desk</b>"), **hall_names(reading.rows)}
+    papers = paper_names(of.rows)
+    halls = {"": Markup("<b>no desk</b>"), **hall_names(of.rows)}
     in_halls: dict[tuple[bool, str, str], list[str]] = defaultdict(list)  # the finishes; last of who has no desk
     in_all: dict[str, list[str]] = defaultdict(list)
-    for _, _, sits in reading.members(session):
+    for _, _, sits in of.members:
         in_halls[sits.hall is None, sits.hall or "", sits.paper].append(sits.finish)
         in_all[sits.paper].append(sits.finish)
     rows = [[halls[hall], papers[code], len(found), max(found), "", ""]
             for (_, hall, code), found in sorted(in_halls.items())]
     total = [[papers[code], len(found), max(found)] for code, found in sorted(in_all.items())]
-    moment = when(reading, session)
-    above = html("{}<h2>Copies</h2> &emsp; {}", school(reading.office, "<br>"), moment)
-    tables = table("Copies", COPIES, rows, above) + table("Copies, all halls", ALL_COPIES, total, moment)
-    return document(reading, f"Copies {session}", tables, "paper", "counts")
+    above = with_school(of.office, html("<h2>Copies</h2> &emsp; {}", of.when))
+    yield table("Copies", COPIES, rows, above) + table("Copies, all halls", ALL_COPIES, total, of.when)
 
 
-def doors(reading: Reading, session: str, asked: Collection[str] = ()) -> str:
-    """Invigilators' sheets: each hall from a page of its own on, by desk."""
-    heading, titles = school(reading.office, "<br>") + when(reading, session), paper_names(reading.rows, HEADED)
-    notes, printed = notebook.notes(reading.office), on_paper.noted(reading.office, session).lines
-    papers, missed = paper_names(reading.rows, CODE), reading.clashes(session)
-    made = {second["code"]: first for first, second in second_sitting.pairs(reading.rows)}
-    others, starts = overlaps.in_halls(reading, session), overlaps.starts(reading)
-    told = {number: [*filter(None, [notes.get(number)]), *(f"does not sit {paper}" for paper in missed.get(number, ())),
-                     *elsewhere(made, starts, sits, reading.all_of(number).values())]
-            for number, _, sits in reading.members(session)}
-    return of_desks(reading, session, "Invigilators' sheets", (
-        page for opening, there in lists.halls(reading, session, asked)
-        for page in of_door(heading, titles, opening, there, others.get(opening.hall, []),
-                            [row_of(member, papers, told[member.number], printed, member.number in notes)
-                             for member in there])), "doors")
+def signatures(of: Session) -> Iterator[Markup]:
+    """For candidates to sign, by desk, with nothing that others need not know."""
+    papers = paper_names(of.rows, CODE)
+    for opening, there in of.halls:
+        rows = [[sits.desk, number, text(name), papers[sits.paper], ""] for number, name, sits in there]
+        yield table(opening.hall, SIGNED, rows, html("{}<br><h2>{}</h2>", of.heading, text(opening.title)))
 
 
-def signatures(reading: Reading, session: str, asked: Collection[str] = ()) -> str:
-    """Lists for candidates to sign, each hall from a page of its own on, by desk, with nothing that others need not
-    know."""
-    papers, heading = paper_names(reading.rows, CODE), school(reading.office, "<br>") + when(reading, session)
-    return of_desks(reading, session, "Lists to sign", (
-        table(opening.hall, SIGNED,
-              [[sits.desk, number, text(name), papers[sits.paper], ""] for number, name, sits in there],
-              html("{}<br><h2>{}</h2>", heading, text(opening.title)))
-        for opening, there in lists.halls(reading, session, asked)), "doors")
+def doors(of: Session) -> Iterator[Markup]:
+    """Invigilators' sheets, by desk. Each page is a table, whose heading says which it is."""
+    notes, missed, starts = notebook.notes(of.office), of.reading.clashes(of.code), overlaps.starts(of.reading)
+    papers, titles = paper_names(of.rows, CODE), paper_names(of.rows, HEADED)
+    made = {second["code"]: first for first, second in second_sitting.pairs(of.rows)}
+    for opening, there in of.halls:
+        found = [row_of(of, member, papers[member.sitting.paper], member.number in notes, [
+            *filter(None, [lists.allowance(member.sitting), notes.get(member.number)]),
+            *(f"does not sit {paper}" for paper in missed.get(member.number, ())),
+            *elsewhere(made, starts, member.sitting, of.reading.all_of(member.number).values())]) for member in there]
+        yield from of_door(of, titles, opening, there, found)
 
 
 def elsewhere(made: Mapping[str, sqlite3.Row], starts: Mapping[str, int], sits: Sitting, all_of: Collection[Sitting]
               ) -> Iterator[str]:
-    """What invigilators must know, from all that somebody sits: what they sit in another session at that time; and
-    where a second sitting is behind this one, or is this one: in between somebody stays with them. Of each paper that
-    was made for second sittings its own one is given."""
+    """What invigilators must know: what somebody sits in another session at that time; and where a second sitting is
+    behind this one, or is this one, that somebody stays with them in between."""
     for other in overlaps.beside(starts, sits, all_of):
         when = f"until {other.finish}" if starts[other.session] < starts[sits.session] else f"from {other.start}"
         yield f"sits {other.session} {when}, in {other.hall or 'no hall yet'}"
@@ -238,37 +212,40 @@ def elsewhere(made: Mapping[str, sqlite3.Row], starts: Mapping[str, int], sits: 
             yield f"watched since {other.finish}, comes from {other.hall or 'no hall'}"
 
 
-def of_door(heading: Markup, titles: Mapping[str, Markup], opening: facts.Opening, members: list[Member],
-            others: list[str], found: list[Row]) -> Iterator[Markup]:
-    """The pages of a hall: each is a table, whose heading says which it is, and which other sessions are there."""
+def of_door(of: Session, titles: Mapping[str, Markup], opening: facts.Opening, members: list[Member],
+            found: list[Row]) -> Iterator[Markup]:
+    """The pages of a hall."""
     counted = sorted(Counter(member.sitting.paper for member in members).items())
     line = COLLECTED if len(counted) > 1 else Markup("{}: {}")
-    said = [*(html(line, titles[code], count) for code, count in counted), *map(safe, others)]
+    said = [*(html(line, titles[code], count) for code, count in counted), *map(safe, of.others.get(opening.hall, []))]
     rows, heights = zip(*found)
     above = lines([opening.title], TITLE) + lines((each.striptags() for each in said), PAPER)
     parts = parted(heights, HEIGHT - HEADING - LINE * max(3, above), LAST)
     last = max(member.sitting.finish for member in members)
     for place, part in enumerate(parts, 1):
-        head = html(ABOVE, heading, clock(opening.until), last, lists.count(opening.desks, "desk"),
+        head = html(ABOVE, of.heading, clock(opening.until), last, lists.count(opening.desks, "desk"),
                     lists.count(len(members), "candidate"), text(opening.title), opening.hall, place, len(parts),
                     joined(said, "<br>"))
         yield table(f"{opening.hall}, page {place} of {len(parts)}", DOORS, rows[part], head,
                     BELOW if place == len(parts) else Markup())
 
 
-def row_of(member: Member, papers: Mapping[str, Markup], told: Iterable[str], printed: Mapping[str, Line],
-           is_noted: bool) -> Row:
-    """The row of a candidate, as high as its highest cell is, or a signature. Below the finish stand the one that was
-    printed where that is another, and a word on a note."""
-    paper, line, finish = papers[member.sitting.paper], printed.get(member.number), member.sitting.finish
-    old = line.shown[SHOWN.index("finish")] if line else ""
-    below = [f"was {old}"] * (old not in ("", finish)) + [LATER] * is_noted
-    until = joined([finish, *(html("<small>{}</small>", each) for each in below)], "<br>")
-    arranged = [*filter(None, [lists.allowance(member.sitting)]), *told]
+def row_of(of: Session, member: Member, paper: Markup, is_noted: bool, arranged: list[str]) -> Row:
+    """The row of a candidate, as high as its highest cell is, or a signature."""
+    finish, line = member.sitting.finish, of.printed.get(member.number)
+    below = [f"was {line.finish}"] if line and line.finish not in ("", finish) else []
+    until = joined([finish, *(html("<small>{}</small>", each) for each in below + [LATER] * is_noted)], "<br>")
     height = 1 + LINE * max(lines([member.name], NAME), lines(arranged, ARRANGEMENT), len(paper.striptags().split()),
                             1 + until.count("<br>"))
-    return [desk(member, printed), member.number, text(member.name), paper, until,
+    return [of.desk(member), member.number, text(member.name), paper, until,
             joined(map(text, arranged), "<br>"), ""], max(ROW, height)
+
+
+PAPERS: dict[str, tuple[str, str, Callable[[Session], Iterable[Markup]]]] = {  # title, style, sheets
+    "board": ("Notice board", "board", board), "cards": ("Desk cards", "cards", cards),
+    "chart": ("Seating charts", "chart", chart), "counts": ("Copies", "counts", counts),
+    "doors": ("Invigilators' sheets", "doors", doors), "poster": ("Posters", "poster", poster),
+    "signatures": ("Lists to sign", "doors", signatures)}
 
 
 def width(words: str) -> float:
@@ -302,15 +279,14 @@ def parted(heights: Sequence[float], room: float, below: float) -> list[slice]:
 
 
 def changes(before: Reading, after: Reading, found: Iterable[Change], since: str) -> str:
-    """Who must be told: what became of each candidate since a copy, the gravest first, with a box to tick. `since` says
-    what they are compared with."""
+    """Who must be told: what became of each candidate since a copy, which `since` says in words, the gravest first."""
     papers = paper_names(before.rows) | paper_names(after.rows)
     halls = hall_names(before.rows) | hall_names(after.rows)
     tables = [table(telling.KINDS[kind][1], TOLD, [told(each, papers, halls) for each in part],
                     html("<h2>{}</h2>", telling.counted(telling.KINDS[kind], [each.number for each in part])))
               for kind, part in telling.by_kind(found).items()]
-    above = html("<h1>Who must be told</h1>\n<p>{}{}</p>\n", school(after.office, " &middot; "), since)
-    return document(after, "Changes", above + (joined(tables) or Markup("<p>Nobody.</p>\n")), "paper", "changes")
+    above = html("<h1>Who must be told</h1>\n<p>{}</p>\n", with_school(after.office, since, between=" &middot; "))
+    return document(after, "Changes", above + (joined(tables) or Markup("<p>Nobody.</p>\n")), "changes")
 
 
 def told(change: Change, papers: Mapping[str, Markup], halls: Mapping[str, Markup]) -> list[object]:

@@ -1,20 +1,21 @@
 """A slip of paper for each candidate, to be cut out and handed over; or what stands on them as CSV, for letters."""
-from collections.abc import Collection, Iterator, Mapping
+from collections.abc import Collection, Mapping
 from typing import NamedTuple
 
 from markupsafe import Markup
 
 from exam_desk import facts, files, lists, notebook, overlaps
+from exam_desk.office import Trouble
 from exam_desk.reading import Person, Reading, Sitting
 from exam_desk.sheets import pages
 from exam_desk.sheets.pages import html, joined, text
-from exam_desk.office import Trouble
 from exam_desk.words import few, short_day
 
 HEADS = ["w:Day", "w:Time", "Paper", "Hall"]
 HEADER = ["number", "name", "session", "date", "start", "finish", "paper", "paper title", "hall", "hall title",
           "arrangement", "not sat", "also sat", "note", "group", "desk", "code"]
 GROUP = "group", 80  # the column of a file number,group, and how many bytes a group has at most
+ASK = "{} {}, at the same time: ask the exams office"
 # What is sat, the papers of its session that are missed, and those that are sat in other sessions at the same time.
 Sat = tuple[Sitting, list[str], list[str]]
 
@@ -35,47 +36,35 @@ class Slip(NamedTuple):
     sat: list[Sat]
 
 
-def beside_groups(reading: Reading, groups: Mapping[str, str]) -> Iterator[str]:
-    """A line on numbers with a group that are no candidates, and one on candidates in none, where there are groups."""
-    known = facts.candidate_names(reading.rows).keys()
-    if strangers := sorted(groups.keys() - known):
-        count = lists.count(len(strangers), "number")
-        yield f"the file has {count} that no candidate of the office has: {few(strangers)}"
-    if groups and (alone := len(known - {each for each, group in groups.items() if group})):
-        yield f"in no group, and so last: {lists.count(alone, 'candidate')}"
-
-
 def page(reading: Reading, choice: Choice) -> str:
-    """The slips by name, or by group and name. Raises `Trouble` where the office does not know a candidate who is asked
-    for, or they sit nothing in these sessions."""
+    """The slips by name, or by group and name. Raises `Trouble` where who is asked for is unknown, or sits nothing."""
     papers, halls = pages.paper_names(reading.rows), pages.hall_names(reading.rows)
-    school, address = pages.school(reading.office, "<br>"), notebook.school_name(reading.office, notebook.PAGE)
-    by_group: dict[str, list[Markup]] = {}
+    address, by_group = notebook.school_name(reading.office, notebook.PAGE), dict[str, list[Markup]]()
     for each in slips_of(reading, choice):
         rows = [row(choice, sat, papers, halls) for sat in each.sat]
-        found = pages.table(each.person.number, HEADS, rows, html("{}{}", school, heading(choice, each, address)))
-        by_group.setdefault(each.group, []).append(html("<div class=slip>{}</div>\n", found))
+        above = pages.with_school(reading.office, heading(choice, each, address))
+        by_group.setdefault(each.group, []).append(
+            html("<div class=slip>{}</div>\n", pages.table(each.person.number, HEADS, rows, above)))
     form = "<div class=sheet><h2>{}</h2>\n{}</div>\n" if choice.groups else "{1}"
     slips = joined(html(form, text(group or "in no group"), joined(each)) for group, each in by_group.items())
-    return pages.document(reading, "Slips", slips, "paper", "slips", of=few([*choice.sessions, *choice.only]))
+    return pages.document(reading, f"Slips {few([*choice.sessions, *choice.only])}".strip(), slips, "slips")
 
 
 def heading(choice: Choice, each: Slip, address: str) -> Markup:
     """Whose slip it is, with the code and the group; below it a note, and the address of the candidates' page."""
-    code = html("<span>access code {}</span>", each.person.code) if choice.codes else ""
-    group = html("<span>{}</span>", text(each.group)) if each.group else ""
-    below = [each.note, address and f"your seats and appeals: {address}"]
-    return html("{}{}<span>number {}</span><h2>{}</h2>{}", code, group, each.person.number, text(each.person.name),
-                joined(html("<br><small>{}</small>", text(line)) for line in below if line))
+    code = [html("<span>access code {}</span>", each.person.code)] if choice.codes else []
+    group = [html("<span>{}</span>", text(each.group))] if each.group else []
+    below = [html("<br><small>{}</small>", text(line))
+             for line in (each.note, address and f"your seats and appeals: {address}") if line]
+    return joined([*code, *group, html("<span>number {}</span><h2>{}</h2>", each.person.number, text(each.person.name)),
+                   *below])
 
 
 def row(choice: Choice, sat: Sat, papers: Mapping[str, Markup], halls: Mapping[str, Markup]) -> list[object]:
     """When, what and where; below the paper what else holds there in small lines."""
     sits, missed, beside = sat
-    allowance = lists.allowance(sits)
-    notes: list[object] = [f"with {allowance}"] if allowance else []
-    notes += [html("{} {}, at the same time: ask the exams office", word, papers[code])
-              for word, codes in (("not", missed), ("also", beside)) for code in codes]
+    notes = [f"with {allowance}"] if (allowance := lists.allowance(sits)) else []
+    notes += [html(ASK, word, papers[code]) for word, codes in (("not", missed), ("also", beside)) for code in codes]
     where = (html("{}, desk&nbsp;{}" if choice.desks else "{}", halls[sits.hall], sits.desk) if sits.hall else
              Markup("<b>no desk yet: ask the office</b>"))
     what = joined([papers[sits.paper], *(html("<small>{}</small>", note) for note in notes)], "<br>")

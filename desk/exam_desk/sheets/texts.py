@@ -1,4 +1,4 @@
-"""What lists say as text: of a candidate, of two papers at once, of each session, of notes."""
+"""What lists say as text: of a candidate, of two papers at once, of each session."""
 import itertools
 import re
 import sqlite3
@@ -7,10 +7,10 @@ from collections.abc import Collection, Iterator
 
 from exam_desk import appeals, facts, lists, notebook, overlaps
 from exam_desk.lists import has_words, letters
-from exam_desk.office import Office, Trouble
+from exam_desk.office import Trouble
 from exam_desk.reading import Person, Reading, Sitting
 from exam_desk.snapshot import Rows
-from exam_desk.words import clock, feature_text, plain
+from exam_desk.words import clock, feature_text
 
 MOST_SHOWN = 10  # candidates; of more only names and numbers
 CANDIDATES = "SELECT printf('%07d', number), name, code FROM candidate"
@@ -99,8 +99,7 @@ def papers_at_once(reading: Reading, session: str) -> Iterator[str]:
 
 
 def summary(reading: Reading, asked: Collection[str] = ()) -> str:
-    """A line for each session that is asked for, or for all: members, seated, short, desks, free desks, candidates with
-    a clash, sessions at one time, and open appeals. Below it a note for each two sessions at one time."""
+    """A line for each session that is asked for, or for all; below them a note for each two sessions at one time."""
     heads = facts.sessions(reading.rows, asked)
     entered = dict.fromkeys(number for head in heads for number in facts.entered(reading.rows, head["code"]))
     reading.ask(map(reading.person, entered))  # of all at once, so that the progress is that of the whole
@@ -115,10 +114,3 @@ def summary(reading: Reading, asked: Collection[str] = ()) -> str:
         lines.append(SUMMARY.format(code, day, clock(start), len(members), seated, len(members) - seated, desks,
                                     desks - seated, len(reading.clashes(code)), twice[code], waiting))
     return "".join([*lines, *(f"NOTE: {each}\n" for each in overlaps.lines(reading, found))])
-
-
-def notes(office: Office, rows: Rows) -> str:
-    """The notes on candidates, a line for each, by number."""
-    names = facts.candidate_names(rows)
-    lines = (f"{number} {names.get(number, '')}: {note}" for number, note in notebook.notes(office).items())
-    return "".join(f"{plain(line)}\n" for line in lines)

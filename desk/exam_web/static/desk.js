@@ -53,7 +53,6 @@ async function load(place) {
   piece.setAttribute("aria-busy", "true");
   try {
     const answer = await fetch(`${place.dataset.load}?piece`, {credentials: "same-origin"});
-    if (answer.status === 503) setTimeout(() => { delete place.dataset.loaded; load(place); }, 1000);  // it is being read
     if (answer.redirected || !answer.ok) throw new Error(answer.status);
     const found = document.createRange().createContextualFragment(await answer.text());
     const at = piece.contains(document.activeElement) && document.activeElement.getAttribute("href");
