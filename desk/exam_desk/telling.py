@@ -181,7 +181,10 @@ def differences(before: Reading, after: Reading, asked: Collection[str] = ()) ->
         if code not in sessions:
             raise Trouble(f"there is no session {code}; the office has {few(sessions, 20)}")
     found = touched(before, after, since="")
-    return of_touched(before, after, {code: found[code] for code in found if not asked or code in asked}, True)
+    changes = of_touched(before, after, {code: found[code] for code in found if not asked or code in asked}, True)
+    if not changes:  # a row that meets nobody may be one that no office has: asked of somebody, the program says so
+        after.ask(map(after.person, [*facts.candidate_names(after.rows)][:1]))
+    return changes
 
 
 def of_touched(before: Reading, after: Reading, sessions: Touched, with_clashes: bool = False) -> list[Change]:
@@ -245,12 +248,12 @@ def text(changes: Collection[Change]) -> str:
     telling = [change.number for change in changes if change.is_to_tell()]
     told = set(telling)
     others = [change.number for change in changes if change.number not in told]
-    lines, last = [], f"{counted(TO_TELL, telling)}, {counted(DESK_ALONE, others)}" if changes else "nothing changed"
+    lines, last = [], ", ".join(counted(words, who) for words, who in ((TO_TELL, telling), (DESK_ALONE, others)) if who)
     for kind, part in by_kind(changes).items():
         mark = "!" if part[0].is_to_tell() else " "
         lines += [f"{counted(KINDS[kind], [change.number for change in part])}:",
                   *(f"{mark} {change.session} {change.person()}: {change.what()}" for change in part)]
-    return "".join(f"{line}\n" for line in [*lines, last])
+    return "".join(f"{line}\n" for line in [*lines, last or "nothing changed"])
 
 
 def counted(words: tuple[str, str], who: Collection[object]) -> str:
