@@ -144,7 +144,7 @@ class Told(sample.SampleSchool):
         self.assertEqual(lines, ["1 has a new clash: MON-AM 0001000 Ada Lin", "`office look --clashes` lists them"])
         self.assertEqual(self.office("changes", "1", "--tell"),
                          "1 has other clashes:\n! MON-AM 0001000 Ada Lin: misses MA-2\n"
-                         "1 to tell, 0 with another desk only\n")
+                         "1 to tell\n")
         self.told("withdraw", "0001000", "MA-2")
         self.assertIn("! MON-AM 0001000 Ada Lin: no longer misses MA-2\n", self.office("changes", "1"))
         self.assertEqual(self.office("changes", "2"), "nothing changed\n")
@@ -248,7 +248,7 @@ class Told(sample.SampleSchool):
         changes = self.office("changes", "1")
         self.assertRegex(changes, r"\A1 loses a need:\n! MON-PM 0001085 Flora Marsh: .*loses step-free\n")
         self.assertIn("<small>loses step-free</small>", self.office("changes", "1", "--paper"))
-        self.assertTrue(changes.endswith("1 to tell, 0 with another desk only\n"), changes)
+        self.assertTrue(changes.endswith("1 to tell\n"), changes)
         self.assertNotIn("need", "\n".join(self.told("back", "1", "--yes")))
 
     def test_a_session_that_is_over(self):
