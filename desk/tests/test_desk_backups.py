@@ -60,7 +60,7 @@ class TestBroughtBack(Backups):
         self.put_back(page, lost=LOST)
         self.assertEqual((snapshot.name_now(self.value), self.rows("SELECT * FROM appeal")), (before, []))
         words = self.browser.words("/office")
-        self.assertIn(f"The office is as in {name} . The office from before is the newest copy. {lost}", words)
+        self.assertIn(f"The office is as in {name} . The office from before is the newest copy. {lost.partition(' (')[0]}", words)
         self.assertRegex(words, f" back to {name} What changed since")
         self.assertEqual(self.left(), [])
         self.browser.get(page, 404)
