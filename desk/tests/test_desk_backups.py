@@ -45,11 +45,11 @@ class TestBroughtBack(Backups):
         page, _ = self.browser.send(*BRING, (name, content))
         words = self.browser.words(page)
         [(person,)] = self.rows("SELECT name FROM candidate WHERE number = 1119")
-        lost = f"appeal {person} 0001119 D1 for MON-AM : open -> gone"
+        lost = f"appeal 0001119 D1 for MON-AM : open -> gone ( {person} )"
         for said in (name, "What would change", "1 would join a session", f"lost: tick each {lost}",
                      "What was done since", "withdraw 0001051 PH-1", f"{name} a backup of 20"):
             self.assertIn(said, words)
-        self.assertIn(f"Einspruch D1 von {person} 0001119 für MON-AM: offen → nicht mehr da",
+        self.assertIn(f"Einspruch D1 von 0001119 für MON-AM: offen → nicht mehr da ({person})",
                       re.sub("<.*?>", "", self.browser.ask("GET", page, headers={"Accept-Language": "de"})[1]))
         self.assertIn(f"{name} a backup that you brought", self.browser.words("/office"))
         self.put_back(page, 422)
@@ -59,7 +59,7 @@ class TestBroughtBack(Backups):
         self.put_back(page, lost=LOST)
         self.assertEqual((snapshot.name_now(self.value), self.rows("SELECT * FROM appeal")), (before, []))
         words = self.browser.words("/office")
-        self.assertIn(f"The office is as in {name} . The office from before is the newest copy. {lost}", words)
+        self.assertIn(f"The office is as in {name} . The office from before is the newest copy. {lost.partition(' (')[0]}", words)
         self.assertRegex(words, f" back to {name} What changed since")
         self.assertEqual(self.left(), [])
         self.browser.get(page, 404)

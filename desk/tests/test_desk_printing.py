@@ -70,7 +70,7 @@ class TestPrinting(DeskSchool):
         found = self.browser.words(self.PRINTED + "?piece").replace(" (new tab)", "")
         self.assertIn("out of date: " + halls.removeprefix("to print again: doors, signatures, poster, cards of ").partition(";")[0] + " ", found)
         self.assertIn("PC1", halls)
-        self.assertIn("And of the whole session: Slips for candidates, with desk numbers , Notice board by name ,", found)
+        self.assertIn("And of the whole session: Notice board by name , Copies of each paper , Slips for candidates, with desk numbers ", found)
         self.assertIn(f"{len(moves)} candidates are not as on paper", found)
         for move in moves:
             number, _, was = re.match(r"(\d{7}) (.*): (\w+ \d+) -> ", move).groups()
