@@ -15,6 +15,7 @@ from unittest import mock
 import sample
 
 from exam_desk import appeals, coding, files, reasons  # beside the tests' folder
+from exam_desk.office import Trouble
 from exam_desk.reading import Reading
 from exam_desk.words import UNSHOWN
 
