@@ -53,7 +53,7 @@ def log_since(when: str = "") -> list[list[str]]:
 def page() -> str:
     found = [(copy_key(path), *copies.when_and_what(path), copies.is_brought(path)) for path in paths()]
     school = ""
-    with contextlib.suppress(Trouble):  # its file is damaged; another name mends it
+    with contextlib.suppress(Trouble):  # its file is damaged: what changes the name says so
         school = notebook.school_name(desk().office)
     return render_template("office.html", copies=found, log=log_since(), keep=turns.keep_state(desk().office),
                            school=school)

@@ -387,6 +387,8 @@ class TestSchool(DeskSchool):
         self.assertEqual(self.office("school"), '"Hill" & <b>Cö</b>\n')
         pathlib.Path(self.desk, "notebook", "school.json").write_text('["damaged"]', "utf-8")
         self.assertIn("Copies from before each change", self.browser.words("/office"))
+        self.assertIn("damaged", self.ask("é" * 40, 422))
+        os.remove(os.path.join(self.desk, "notebook", "school.json"))
         self.ask("é" * 40)
         self.assertEqual(self.office("school"), "é" * 40 + "\n")
         self.ask("")
