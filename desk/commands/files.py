@@ -13,7 +13,7 @@ from exam_desk.words import plain
 
 if TYPE_CHECKING:
     from argparse import Namespace
-    from exam_desk.workbook.reading import Reading
+    from exam_desk.workbook.tables import Job
 
 
 def add_reading(parser: command.Parser, is_folder: bool = False) -> None:
@@ -34,7 +34,7 @@ def add_reading(parser: command.Parser, is_folder: bool = False) -> None:
     parser.add_argument("--hidden", choices=["take", "leave"], default="", help="what becomes of hidden rows")
 
 
-def read_source(office: Office, path: str, given: Namespace, is_folder: bool) -> Reading:
+def read_source(office: Office, path: str, given: Namespace, is_folder: bool) -> Job:
     """Reads a workbook, or a folder of import files, as the options say. Raises `Trouble` where it cannot be read."""
     from exam_desk.checking import office_knows
     from exam_desk.workbook import headers, opening, reading, tables, values
@@ -47,11 +47,11 @@ def read_source(office: Office, path: str, given: Namespace, is_folder: bool) ->
     return reading.read_book(opening.open_book(path, given.encoding), job, command.progress)
 
 
-def print_lines(reading: Reading, everything: bool) -> None:
+def print_lines(job: Job, everything: bool) -> None:
     """Prints what was changed, and what is wrong."""
     from exam_desk.workbook.tables import together
     command.progress("")
-    command.say_lines(line.whole() for line in (reading.report.lines if everything else together(reading.report.lines)))
+    command.say_lines(line.whole() for line in (job.lines if everything else together(job.lines)))
 
 
 def made(source: str, new: str, given: Namespace, is_folder: bool, lines_name: str) -> int:
@@ -60,13 +60,13 @@ def made(source: str, new: str, given: Namespace, is_folder: bool, lines_name: s
     from exam_desk.workbook.reading import refuse_there, write_folder
     target = os.path.abspath(new)
     refuse_there(target)
-    reading = read_source(command.office(), source, given, is_folder)
-    print_lines(reading, given.all)
-    counts = ", ".join(lists.count(reading.report.count(sort), sort) for sort in ("mistake", "change", "note"))
-    if reading.report.count("mistake"):
+    job = read_source(command.office(), source, given, is_folder)
+    print_lines(job, given.all)
+    counts = ", ".join(lists.count(job.count(sort), sort) for sort in ("mistake", "change", "note"))
+    if job.count("mistake"):
         print(f"{counts}: nothing is written")
         return 1
-    for kind, count in write_folder(target, reading, lines_name).items():
+    for kind, count in write_folder(target, job, lines_name).items():
         print(f"{kind}: {count}")
     print(f"{counts}: look through them in {plain(os.path.join(target, lines_name))}")
     return 0
@@ -224,11 +224,11 @@ def take(parser: command.Parser) -> command.Plan:
     add_reading(parser)
     parser.add_argument("source", metavar="WORKBOOK|FOLDER")
     given = command.given(parser, "--yes: do not ask", "--codes: make access codes for candidates who have none")
-    reading = read_source(command.existing_office(), given.source, given, os.path.isdir(given.source))
+    job = read_source(command.existing_office(), given.source, given, os.path.isdir(given.source))
     if given.codes:
-        coding.add_codes(command.office(), reading)
-    print_lines(reading, given.all)
-    return programs.Asked(coding.steps_of(reading), f"take {os.path.basename(os.path.abspath(given.source))}",
+        coding.add_codes(command.office(), job)
+    print_lines(job, given.all)
+    return programs.Asked(coding.steps_of(job), f"take {os.path.basename(os.path.abspath(given.source))}",
                        most=None if given.all else programs.MOST_NAMED, question="import all this?", done="imported",
                        is_agreed=given.yes)
 

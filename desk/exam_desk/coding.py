@@ -11,7 +11,7 @@ from exam_desk.changing import Step
 from exam_desk.office import Office, NoCandidate, Trouble
 
 if TYPE_CHECKING:
-    from exam_desk.workbook.reading import Reading
+    from exam_desk.workbook.tables import Job
 
 LETTERS, DIGITS, LENGTH = "BCDFGHJKMNPQRSTVWXYZ", "23456789", 10
 
@@ -91,24 +91,24 @@ def renamed(office: Office, number: str, name: str) -> Step:
                 files.file_of("candidates", [[number, name, codes[number]]]))
 
 
-def add_codes(office: Office, reading: Reading) -> None:
+def add_codes(office: Office, job: Job) -> None:
     """Gives each candidate who was read without a code one: that of the office for the number, else a new one."""
-    records, report = reading.records.get("candidates", []), reading.report
+    records = job.records.get("candidates", [])
     coded = filled([record.fields for record in records], in_office(office), set())
-    reading.records["candidates"] = [record._replace(fields=row) for record, row in zip(records, coded.rows)]
-    report.lines = [line for line in report.lines if line.what != mistakes.NO_CODE]
-    if coded.made and not report.count("mistake"):
-        report.change(f"{lists.count(coded.made, 'access code')} made")
+    job.records["candidates"] = [record._replace(fields=row) for record, row in zip(records, coded.rows)]
+    job.lines = [line for line in job.lines if line.what != mistakes.NO_CODE]
+    if coded.made and not job.count("mistake"):
+        job.change(f"{lists.count(coded.made, 'access code')} made")
 
 
-def steps_of(reading: Reading) -> list[Step]:
+def steps_of(job: Job) -> list[Step]:
     """The imports of what was read, in order. `Trouble` at a mistake, as where nothing was read, or an empty code."""
     from exam_desk.workbook.reading import file_parts  # here, since `office codes` needs no workbook
-    if count := reading.report.count("mistake"):
+    if count := job.count("mistake"):
         raise Trouble(f"{lists.count(count, 'mistake')}: nothing is changed")
-    if empty := sum(not record.fields[2] for record in reading.records.get("candidates", [])):
+    if empty := sum(not record.fields[2] for record in job.records.get("candidates", [])):
         raise Trouble(f"{lists.count(empty, 'candidate')} without an access code: nothing is changed; give --codes too "
                       "to make them")
     return [Step(("import", kind, name), text)
-            for kind in files.HEADERS if (rows := [record.fields for record in reading.records.get(kind, [])])
+            for kind in files.HEADERS if (rows := [record.fields for record in job.records.get(kind, [])])
             for name, text, _ in file_parts(kind, rows)]  # several where they are too many for one

@@ -39,6 +39,7 @@ BOM = b"\xef\xbb\xbf"
 INPUT = "/dev/stdin"
 INPUTS = "-", INPUT  # what stands for standard input in the place of a file
 PATIENCE = 2  # seconds after which it is said that nothing has come in
+TABLES = (".csv", ".xlsx", ".xlsm", ".ods")  # end the names of files that may hold rows
 NO_UTF_8 = "the letters are no UTF-8: save the file as CSV UTF-8"
 QUERIES = {  # the rows of an office, where masks and clocks are numbers
     "sessions": "SELECT code, day, start AS clock FROM session ORDER BY day, start, code",

@@ -112,7 +112,7 @@ class Files(sample.SampleSchool):
 
     def test_what_cannot_be_tried(self):
         [line, last] = self.checked(status=1, entries="number,paper\n1000,LAT\n")
-        self.assertIn("leading zeros lost?", line)
+        self.assertIn("write 0001000", line)
         program = self.write("program", "#!/bin/sh\necho refused 22 >&2\nexit 1\n")
         os.chmod(program, 0o700)
         self.environment["EXAMOFFICE"] = program

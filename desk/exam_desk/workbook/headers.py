@@ -52,7 +52,7 @@ FIRST_NAME = "firstname firstnames givenname forename vorname".split()
 LAST_NAME = "lastname surname familyname nachname".split()
 LISTS = re.compile("withdr|reinstat|abmeld|rücktritt")  # begin the names of lists of entries that do not bring them in
 OF_PEOPLE = {"name", *WORDS["name"].split(), *FIRST_NAME, *LAST_NAME}
-MARKED = {"papers": "requires", "halls": "features", "arrangements": "needs"}  # may be columns of crosses
+MARKED = {"papers": "requires", "halls": "features", "arrangements": "needs", "entries": "paper"}  # or crosses
 
 
 class Given(NamedTuple):
