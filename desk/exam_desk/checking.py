@@ -8,7 +8,8 @@ from collections import Counter
 from collections.abc import Iterator, Mapping
 from dataclasses import replace
 
-from exam_desk import changing, coding, effects, files, lists, mistakes, overlaps, private, running, snapshot
+from exam_desk import (changing, coding, effects, files, lists, mistakes, overlaps, private, refusals, running,
+                       snapshot)
 from exam_desk.asking import Progress
 from exam_desk.changing import Step, Tell
 from exam_desk.office import Office, Trouble
@@ -46,12 +47,13 @@ def check_folder(office: Office, folder: str, tell: Tell, progress: Progress) ->
     found = {f"{kind}.csv": mistakes.looked_through(kind, text, known, MOST_SHOWN) for kind, text in texts.items()}
     counts = Counter(files=len(found), codes=sum(wrong.counts[mistakes.NO_CODE] for wrong, _ in found.values()),
                      mistakes=sum(wrong.count for wrong, _ in found.values()))
-    tried = []
+    refused, tried = list[str](), list[str]()
     if texts and not counts["mistakes"]:
         if counts["codes"]:
             coded = coding.coded(office, os.path.join(folder, "candidates.csv"), [])
             texts["candidates"] = files.file_of("candidates", coded.rows)
-        tried = would_do(office, texts, tell, progress)
+        refused, tried = would_do(office, texts, tell, progress)
+        counts["mistakes"] = len(refused)
     counts["notes"] = sum(notes.count for _, notes in found.values()) + len(tried)
     for name in names:
         if name.lower().endswith(".csv") and name not in found:
@@ -60,12 +62,13 @@ def check_folder(office: Office, folder: str, tell: Tell, progress: Progress) ->
             tried.append(f"{name} is a workbook: `office read` makes the files of it")
     lines = [line for name, (wrong, notes) in found.items()
              for line in (*lines_on(name, wrong, ""), *lines_on(name, notes, "NOTE: "))]
-    return [*lines, *(f"NOTE: {line}" for line in tried)], counts
+    return [*lines, *refused, *(f"NOTE: {line}" for line in tried)], counts
 
 
-def would_do(office: Office, texts: Mapping[str, bytes], tell: Tell, progress: Progress) -> list[str]:
-    """What the files would do to candidates, in short, and which sessions would be at one time then; to an empty office
-    in a private folder where there is none. Where it cannot be tried, a line says why."""
+def would_do(office: Office, texts: Mapping[str, bytes], tell: Tell, progress: Progress) -> tuple[list[str], list[str]]:
+    """What the program refuses of the files, such as a limit that is passed; and what they would do to candidates, in
+    short, and which sessions would be at one time then; to an empty office in a private folder where there is none.
+    Where it cannot be tried, a line says why."""
     steps = [Step(("import", kind, f"{kind}.csv"), text) for kind, text in texts.items()]
     try:
         with contextlib.ExitStack() as stack:
@@ -76,14 +79,15 @@ def would_do(office: Office, texts: Mapping[str, bytes], tell: Tell, progress: P
             rehearsal = stack.enter_context(changing.rehearse(office, steps, tell))
             tell("")
             if refused := changing.refused_of(rehearsal.answers):
-                raise Trouble(f"the program says {refused.first_line()} to {refused.step.words[-1]}")
-            with (Reading(office, rehearsal.before, progress) as before,
-                  Reading(office, rehearsal.after, progress) as after):
-                done = effects.Effects(before, after)
-                met = {kind: people for kind, people in done.met.items()
-                       if kind not in (effects.TWICE, effects.HALLS)}
-                found = [*effects.headlines(met), *done.without_a_desk(),
-                         *overlaps.lines(after, overlaps.found(after))]
-        return [f"once imported: {line}" for line in found]
+                name, said = refused.step.words[-1], refused.first_line()
+                if (number := refusals.number_of(said)) in refusals.OF_A_FILE:
+                    return [f"{name}: {said}: {refusals.SENTENCES[number]}"], []
+                raise Trouble(f"the program says {said} to {name}")
+            before = stack.enter_context(Reading(office, rehearsal.before, progress))
+            after = stack.enter_context(Reading(office, rehearsal.after, progress))
+            done = effects.Effects(before, after)
+            met = {kind: people for kind, people in done.met.items() if kind not in (effects.TWICE, effects.HALLS)}
+            found = [*effects.headlines(met), *done.without_a_desk(), *overlaps.lines(after, overlaps.found(after))]
+        return [], [f"once imported: {line}" for line in found]
     except (Trouble, OSError, sqlite3.Error, MemoryError) as fault:
-        return [f"nobody can say what the files would do: {plain(fault) or 'there is no memory'}"]
+        return [], [f"nobody can say what the files would do: {plain(fault) or 'there is no memory'}"]

@@ -229,11 +229,6 @@ def is_header(kind: str, record: Record | None) -> bool:
     return record is not None and record.fields == tuple(map(str.encode, HEADERS[kind]))
 
 
-def needed_columns(kind: str) -> set[str]:
-    """The columns without which no row of a kind can be read: its key, and what refers to other kinds."""
-    return {*HEADERS[kind][:KEYS.get(kind, 1)], *REFERENCES[kind]}
-
-
 def key_of(kind: str, fields: tuple[bytes, ...]) -> tuple[bytes, ...]:
     return fields[:KEYS.get(kind, 1)]
 

@@ -9,8 +9,6 @@ from exam_desk import files, lists, snapshot, words
 
 MOST_COUNTED = 100_000  # mistakes of a file; what is behind the last of them is not looked at
 MOST_TO_MEND = 200  # bytes of a value for which a better one is sought
-LIMITS = {"sessions": 400, "papers": 2000, "halls": 500, "candidates": 20000}
-MOST_MEMBERS, MOST_OPENINGS = 4096, 256  # of a session
 WITHDRAWN = "SELECT printf('%07d', number), paper FROM entry WHERE live = 0"
 GRANTED = f"SELECT printf('%07d', number) FROM appeal WHERE {snapshot.GRANTED_NEEDS}"
 NAMES, CODES = {"name", "title"}, {"session", "paper", "hall", "code"}  # columns
@@ -86,9 +84,7 @@ class Known:
 
     def __init__(self, connection: sqlite3.Connection | None = None) -> None:
         """Of the office whose rows these are; without them nothing is known."""
-        self.keys: dict[str, set[bytes] | None] = {kind: set() for kind in LIMITS}
-        self.papers: dict[bytes, bytes] = {}  # the session of each
-        self.openings: set[tuple[bytes, ...]] = set()
+        self.keys: dict[str, set[bytes] | None] = {kind: set() for kind in files.BRINGS.values()}
         self.entries: set[tuple[bytes, ...]] = set()
         self.withdrawn: set[tuple[bytes, ...]] = set()
         self.granted: set[bytes] = set()  # the numbers of candidates with a granted arrangement
@@ -104,28 +100,10 @@ class Known:
         keys = self.keys.get(kind)
         if keys is not None:
             keys.update(row[0] for row in rows)
-        if kind == "papers":
-            self.papers.update((row[0], row[2]) for row in rows)
-        elif kind == "openings":
-            self.openings.update(row[:2] for row in rows)
-        elif kind == "entries":
+        if kind == "entries":
             self.entries.update(row for row in rows if row not in self.withdrawn)
         elif kind == "candidates":
             self.codes.update((row[0], row[2]) for row in rows)
-
-    def passed_limit(self) -> str | None:
-        """The first limit that is passed, in words, or none."""
-        for kind, most in LIMITS.items():
-            if (count := len(self.keys[kind] or ())) > most:
-                return f"{count} {kind}; an office holds {most}"
-        opened = Counter(session for session, _ in self.openings)
-        members = {(number, self.papers.get(paper)) for number, paper in self.entries}
-        sitting = Counter(session for _, session in members if session)
-        for counts, most, what in [(opened, MOST_OPENINGS, "open halls"), (sitting, MOST_MEMBERS, "candidates")]:
-            for session, count in counts.items():
-                if count > most:
-                    return f"{count} {what} in session {files.shown(session)[1:-1]}; a session holds {most}"
-        return None
 
 
 def cure(column: str, field: bytes) -> Cure:
@@ -205,8 +183,6 @@ class File:
         if rows is not None and self.look_at(rows):
             self.note_unknown()
             self.known.take(self.kind, [record.fields for record in self.first.values()])
-            if passed := self.known.passed_limit():
-                self.wrong.add(1, "file", passed)
             self.note_together()
         elif self.kind in self.known.keys:
             self.known.keys[self.kind] = None

@@ -112,7 +112,6 @@ def spoiled():
     yield "entries", long[:files.MOST_BYTES - (files.MOST_BYTES - 13) % 13]
     sessions = b"".join(b"S%d,2027-06-07,09:00\n" % place for place in range(398))
     yield "sessions", b"session,date,start\n" + sessions[:sessions.index(b"S397,")]
-    yield "sessions", b"session,date,start\n" + sessions
     halls = b"".join(b"H%d,Hall,-\n" % place for place in range(260))
     yield "halls", b"hall,title,features\n" + halls
 
@@ -181,6 +180,13 @@ class Verdicts(sample.SampleSchool):
     def test_a_folder_in_the_place_of_a_file(self):
         os.mkdir(os.path.join(self.folder, "halls.csv"))
         self.assertIn("halls.csv: is no file, but a folder", self.refused("check-files", "."))
+
+    def test_the_program_says_where_a_limit_is_passed(self):
+        self.write("sessions.csv", "session,date,start\n" + "".join(f"S{place},2027-06-07,09:00\n" for place in range(398)))
+        done = self.run_office("check-files", ".")
+        self.assertEqual((done.returncode, done.stderr, done.stdout), (1, "", (
+            "sessions.csv: refused 20: a limit would be passed, or the file is too long; the handbook lists the limits\n"
+            "1 file, 1 mistake, 0 notes\n")))
 
     def test_files_at_random(self):
         with tempfile.TemporaryDirectory() as folder, random_files.schools(folder, SEED) as schools:
@@ -305,8 +311,6 @@ class Words(unittest.TestCase):
         same = b"number,name,code\n100\351,Ada,ABCDEFGH\n0000002,Ada,ABCDEFGH\n"
         self.assertEqual(self.mistakes_in("candidates", same), (["seven digits; format the column as text"], [
             "2 candidates have this access code", "2 candidates have this access code"]))
-        halls = b"session,hall,desks,until,reserved\n" + b"".join(b"\xff,H%d,1,12:00,no\n" % place for place in range(257))
-        self.assertIn("257 open halls in session \ufffd; a session holds 256", self.mistakes_in("openings", halls)[0])
 
     def test_a_long_file_is_not_read(self):
         with mock.patch("exam_desk.files.MOST_BYTES", 20), self.assertRaisesRegex(Trouble, "a.csv: is longer than 20 bytes"):

@@ -185,11 +185,11 @@ class Limits(unittest.TestCase):
 class Columns(unittest.TestCase):
     def test_a_file_of_columns_that_says_something_else_is_refused(self) -> None:
         for text, said in (('dates = "first"', "dates is day-first or month-first"), ("halls = 1", "halls is none of the"),
-                           ('[halls]\nfeatures = { always = "big" }', "features: write { always = "),
-                           ('[halls]\nhall = ["A", "B"]', "only names and titles have several"),
+                           ('[halls]\nfeatures = { always = "big" }', "features: write a header"),
+                           ('[halls]\nhall = ["A", "B"]', "for names and titles also several"),
                            ('[halls]\nsheet = { always = "A" }', "sheet: write a header"), ("words = 1", "write a table such"),
-                           ("[words.room]\na = 'b'", "room is no column"), ("[words]\nhall = 1", "hall is no column"),
-                           ("[words.start]\nnoon = 12", "12 is no value of start"),
+                           ("[words.room]\na = 'b'", "room is no column"), ("[words]\nhall = 1", "write a table such"),
+                           ("[words.start]\nnoon = 12", "write a table such"),
                            ("[words.start]\nnoon = '12'", "'12' is no value of start")):
             with self.subTest(text), self.assertRaises(Trouble) as raised:
                 read_columns("c.toml", text.encode())

@@ -70,7 +70,7 @@ def list_of(kind: str, name: str) -> Any:
     source = files.REFERENCES[kind].get(name)
     takes_features = mistakes.CURES[name] == mistakes.FEATURES_CURE
     if source:
-        offered = f"{source.capitalize()}!$A$2:$A${mistakes.LIMITS[source] + 1}"
+        offered = f"{source.capitalize()}!$A$2:$A${LAST_ROW.get(source, 20_001)}"
     elif name == "reserved":
         offered = '"yes,no"'
     elif takes_features:
