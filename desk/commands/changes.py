@@ -94,7 +94,7 @@ def name(parser: command.Parser) -> command.Plan:
     from commands import programs
     from exam_desk import coding
     given = command.given(parser, "number", "name")
-    return programs.Change([coding.renamed(command.office(), given.number, given.name)], f"name {given.number}")
+    return programs.Change([coding.other_rows(command.office(), [given.number], given.name)], f"name {given.number}")
 
 
 @command.named("""Lets a candidate with two papers at once sit one of them later: second-sitting NUMBER PAPER START HALL

@@ -109,45 +109,20 @@ def check_files(parser: command.Parser) -> bool:
     return bool(counts["mistakes"] or counts["codes"])
 
 
-@command.named("""\
-Makes access codes at random for those who have none: codes [CANDIDATES.csv] [--new NUMBER ..] [--import]
+@command.named("""Gives candidates another access code, where a slip is lost: codes NUMBER ..
 
-    office codes                                   reads candidates.csv, writes candidates-with-codes.csv
-    office codes new.csv --output new-coded.csv
-    office codes --new 0001051 --import            another code for one candidate, in the office at once
-    office codes --new 0001051                     the row of this candidate with another code, as a file to import
+    office codes 0001051
 
-It fills the column `code` where that is empty: with the code that the office has, since slips with it may be out, else
-with a new one. It keeps the codes that are there, and makes none twice. --new names who gets another code all the same;
-without CANDIDATES.csv their rows alone are written, as the office has them.
-
-It writes a new file for its owner alone, never over one that is there: look at it, and import it. With --import it
-writes none. A code has ten letters and digits, no vowels and nothing that looks alike, and begins with a letter.
+The old code opens nothing then. Print a slip with the new one by `office slips --only NUMBER --codes`. A code has ten
+letters and digits at random, no vowels and nothing that looks alike, and begins with a letter. For candidates who have
+none `office take .. --codes` makes them.
 """, changes=True)
 def codes(parser: command.Parser) -> command.Plan:
     from commands import programs
-    from exam_desk import coding, files, lists
-    from exam_desk.changing import Step
-    parser.add_argument("candidates", metavar="CANDIDATES.csv", nargs="?", help="candidates.csv if not given")
-    parser.add_argument("--new", metavar="NUMBER", type=typed.number, nargs="+", default=[],
-                        help="who gets another code")
-    form = parser.add_mutually_exclusive_group()
-    form.add_argument("--output", metavar="FILE", help="the new file, CANDIDATES-with-codes.csv if not given")
-    form.add_argument("--import", action="store_true", dest="at_once", help="imports the rows, and writes no file")
-    given = parser.parse_args()
-    path = given.candidates or "candidates.csv"
-    found = coding.coded(command.office(), None if given.new and not given.candidates else path, given.new)
-    if given.at_once:
-        step = Step(("import", "candidates", "rows with new codes"), files.file_of("candidates", found.rows))
-        return programs.Change([step], " ".join(["codes", *(["--new", *given.new] if given.new else [])]))
-    output = given.output or f"{os.path.splitext('candidates' if path in files.INPUTS else path)[0]}-with-codes.csv"
-
-    def write() -> None:
-        files.put(output, files.file_of("candidates", found.rows))
-        kept = f", {found.kept} filled from the office" if found.kept else ""
-        made, rows = lists.count(found.made, "code"), lists.count(len(found.rows), "row")
-        command.say(f"{plain(output)}: {made} made for {rows}{kept}\n")
-    return write
+    from exam_desk import coding
+    parser.add_argument("number", metavar="NUMBER", type=typed.number, nargs="+")
+    numbers = parser.parse_args().number
+    return programs.Change([coding.other_rows(command.office(), numbers)], " ".join(["codes", *numbers]))
 
 
 @command.named("""\
@@ -210,7 +185,7 @@ def read(parser: command.Parser) -> int:
 @command.named("""Brings a workbook, or a folder of import files, into the office: take WORKBOOK|FOLDER
 
     office take school.xlsx         says what would change, asks, and imports
-    office take school.xlsx --codes gives each candidate who has no access code one, as `office codes` does
+    office take school.xlsx --codes gives each candidate who has no access code that of the office, or a new one
     office take facts --yes         without a question, for scripts
 
 It reads a workbook as `office read` does, and a folder as `office mend` does; where there is a mistake nothing is

@@ -1,12 +1,13 @@
-"""Access codes at random for candidates who have none, or who are to have another; other names for candidates; and the
+"""Access codes at random for candidates who have none, or whose code is lost; other names for candidates; and the
 imports of what was read from a workbook, or from a folder of import files."""
 from __future__ import annotations
 
 import os
 import secrets
-from typing import TYPE_CHECKING, NamedTuple
+from collections.abc import Mapping
+from typing import TYPE_CHECKING
 
-from exam_desk import facts, files, lists, mistakes, snapshot
+from exam_desk import files, lists, mistakes, snapshot
 from exam_desk.changing import Step
 from exam_desk.office import Office, NoCandidate, Trouble
 
@@ -14,13 +15,6 @@ if TYPE_CHECKING:
     from exam_desk.workbook.tables import Job
 
 LETTERS, DIGITS, LENGTH = "BCDFGHJKMNPQRSTVWXYZ", "23456789", 10
-
-
-class Coded(NamedTuple):
-    """Rows of candidates.csv, each with a code; how many codes were made, and how many fields have the office's."""
-    rows: list[list[str]]
-    made: int
-    kept: int
 
 
 def in_office(office: Office) -> dict[str, list[str]]:
@@ -51,59 +45,45 @@ def new_code(taken: set[str]) -> str:
             return code
 
 
-def filled(rows: list[list[str]], known: dict[str, list[str]], new: set[str]) -> Coded:
-    """The rows; each that has no code, or that is to have a new one, with that of its number."""
-    codes = {number: code for number, _, code in [*known.values(), *rows] if code}
-    taken = set(codes.values())
-    codes = {number: code for number, code in codes.items() if number not in new}
-    found, made, kept = [], 0, 0
-    for number, name, code in rows:
+def filled(rows: list[list[str]], known: Mapping[str, str]) -> tuple[list[list[str]], int]:
+    """The rows, where each without a code has that of its number, or a new one; and how many are new."""
+    codes = {**known, **{number: code for number, _, code in rows if code}}
+    taken, had = set(codes.values()), len(codes)
+    for number, _, code in rows:
         if number not in codes:
             codes[number] = new_code(taken)
-            made += 1
-        if number in new or not code:
-            code = codes[number]
-            kept += number in known and code == known[number][2]
-        found.append([number, name, code])
-    return Coded(found, made, kept)
+    return [[number, name, code or codes[number]] for number, name, code in rows], len(codes) - had
 
 
-def coded(office: Office, path: str | None, new: list[str]) -> Coded:
-    """The rows of a file with codes, or without a file those of the office of who gets another code. Raises `Trouble`
-    as `read`, and where one of the new numbers is not there."""
-    known = in_office(office)
-    rows = [known[number] for number in dict.fromkeys(new) if number in known] if path is None \
-        else read(files.read(path, office.warn), path)
-    for number in set(new) - {row[0] for row in rows}:
-        raise Trouble(f"{number} is not in {path or 'the office'}; a number has seven digits")
-    return filled(rows, known, set(new))
-
-
-def renamed(office: Office, number: str, name: str) -> Step:
-    """A candidate's row with another name, the same code. `Trouble` where nobody has the number, or it is no name."""
-    with snapshot.rows(office) as rows:
-        codes = facts.access_codes(rows)
-    if number not in codes:
-        raise NoCandidate(number)
-    if not files.is_name(name.encode("utf-8", "surrogateescape")):
+def other_rows(office: Office, numbers: list[str], name: str | None = None) -> Step:
+    """The import of candidates with another name and the same code, or without a name with another code. Raises
+    `Trouble` where nobody has a number, or it is no name."""
+    rows = in_office(office)
+    if missing := [number for number in numbers if number not in rows]:
+        raise NoCandidate(missing[0])
+    if name is not None and not files.is_name(name.encode("utf-8", "surrogateescape")):
         raise Trouble("a name has 1 to 80 bytes and no control characters")
-    return Step(("import", "candidates", f"name of {number}"),
-                files.file_of("candidates", [[number, name, codes[number]]]))
+    taken = {code for _, _, code in rows.values()}
+    changed = [[number, rows[number][1], new_code(taken)] if name is None else [number, name, rows[number][2]]
+               for number in numbers]
+    title = f"{'name' if name is not None else 'code'} of {', '.join(numbers)}"
+    return Step(("import", "candidates", title), files.file_of("candidates", changed))
 
 
 def add_codes(office: Office, job: Job) -> None:
     """Gives each candidate who was read without a code one: that of the office for the number, else a new one."""
     records = job.records.get("candidates", [])
-    coded = filled([record.fields for record in records], in_office(office), set())
-    job.records["candidates"] = [record._replace(fields=row) for record, row in zip(records, coded.rows)]
+    rows, made = filled([record.fields for record in records],
+                        {number: code for number, _, code in in_office(office).values()})
+    job.records["candidates"] = [record._replace(fields=row) for record, row in zip(records, rows)]
     job.lines = [line for line in job.lines if line.what != mistakes.NO_CODE]
-    if coded.made and not job.count("mistake"):
-        job.change(f"{lists.count(coded.made, 'access code')} made")
+    if made and not job.count("mistake"):
+        job.change(f"{lists.count(made, 'access code')} made")
 
 
 def steps_of(job: Job) -> list[Step]:
     """The imports of what was read, in order. `Trouble` at a mistake, as where nothing was read, or an empty code."""
-    from exam_desk.workbook.reading import file_parts  # here, since `office codes` needs no workbook
+    from exam_desk.workbook.reading import file_parts  # here, since `office name` needs no workbook
     if count := job.count("mistake"):
         raise Trouble(f"{lists.count(count, 'mistake')}: nothing is changed")
     if empty := sum(not record.fields[2] for record in job.records.get("candidates", [])):

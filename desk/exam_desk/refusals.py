@@ -50,8 +50,8 @@ OTHER = {
 }
 OF_A_FILE = [1, 2, 3, 4, 5, 6, 7, 20]  # refusals that rows of an import file can bring
 IDLE = ["entries", "arrangements"]  # their rows do nothing where the entry is withdrawn, or a grant is in force
-NO_CODE = ("`office codes FILE` fills in the codes that the office has, and new ones; for another name alone take "
-           "`office name NUMBER NAME`")
+NO_CODE = ("`office take FILE --codes` fills in the codes that the office has, and new ones; for another name alone "
+           "take `office name NUMBER NAME`")
 MOST_LINES = 5  # on one column of an import file
 MOST_SHOWN = 200  # letters of the words of a process
 MAYBE_DONE = (22, 23)  # after these a command is there whole or not at all

@@ -18,7 +18,7 @@ from markupsafe import Markup
 from werkzeug.datastructures import FileStorage
 from werkzeug.wrappers import Response
 
-from exam_desk import backups, coding, dumping, files, mistakes
+from exam_desk import backups, coding, dumping, facts, files, mistakes
 from exam_desk.changing import Step
 from exam_desk.mistakes import Mistake
 from exam_desk.office import Trouble
@@ -365,12 +365,11 @@ def with_codes(upload: Upload, page: Page, form: Form) -> dict[str, bytes]:
     content = upload.texts.get("candidates", b"")
     if all(record.fields[-1] for record in below_header(content)):
         return {}
-    known = {row[0]: row for row in files.rows_of(view().reading.rows, "candidates")}
-    coded = coding.filled(coding.read(content, "candidates.csv"), known, set())
-    if coded.made and not form.get("codes"):
+    rows, made = coding.filled(coding.read(content, "candidates.csv"), facts.access_codes(view().reading.rows))
+    if made and not form.get("codes"):
         raise Wrong(page, codes=text(
             "without an access code no candidate is imported: tick below that the desk makes them"))
-    return {"candidates": files.file_of("candidates", coded.rows)}
+    return {"candidates": files.file_of("candidates", rows)}
 
 
 def withdraw_list(upload: Upload, what: str, page: Page, done: Callable[[], None]) -> Plan:

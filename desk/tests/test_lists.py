@@ -225,69 +225,37 @@ class Lists(sample.SampleSchool):
         self.assertIn("is there already", self.refused("dump", folder))
 
     def test_codes(self):
-        path = self.write("c.csv", '\ufeffnumber,name,code\n0000001,"Lin, ""Ada""",\n0000002,=1+1,ABCDEFGH\n'
-                                   '0000001,"Lin, ""Ada""",\n0000003,Bo,\n')
-        self.assertEqual(self.office("codes", path), f"{path[:-4]}-with-codes.csv: 2 codes made for 4 rows\n")
-        with open(path[:-4] + "-with-codes.csv", encoding="utf-8-sig", newline="") as file:
-            rows = list(csv.reader(file))
-        self.assertEqual([row[:2] for row in rows[1:]],
-                         [["0000001", 'Lin, "Ada"'], ["0000002", "=1+1"], ["0000001", 'Lin, "Ada"'], ["0000003", "Bo"]])
-        first, kept, again, other = (row[2] for row in rows[1:])
-        self.assertEqual((kept, again, len({first, kept, other})), ("ABCDEFGH", first, 3))
+        rows = [["0000001", 'Lin, "Ada"', ""], ["0000002", "=1+1", "ABCDEFGH"], ["0000001", 'Lin, "Ada"', ""], ["0000003", "Bo", ""],
+                ["0000004", "Cy", ""]]
+        found, made = coding.filled(rows, {"0000002": "OFFICE02", "0000004": "OFFICE04"})
+        self.assertEqual(([row[:2] for row in found], made), ([row[:2] for row in rows], 2))
+        first, own, again, other, known = (row[2] for row in found)
+        self.assertEqual((own, again, known, len({first, own, other})), ("ABCDEFGH", first, "OFFICE04", 3))
         self.assertRegex(first, "^[B-Z][B-Z2-9]{9}$")
-        self.assertEqual(stat.S_IMODE(os.stat(path[:-4] + "-with-codes.csv").st_mode), 0o600)
-        self.assertIn("is there already", self.refused("codes", path))
         with mock.patch("secrets.choice", side_effect="B" * 10 + "C" * 10):
             self.assertEqual(coding.new_code({"B" * 10}), "C" * 10)
-        header, check = "line 1 must be: number,name,code\n", "line 2 is wrong; `office check-files` says how\n"
+
+    def test_rows_without_codes_are_those_that_an_import_takes(self):
+        header, check = "line 1 must be: number,name,code", "line 2 is wrong; `office check-files` says how"
         for text, said in [("number,name\n", header), ("number,name,code\n1,Bo,\n", check),
                            ("number,name,code\n0000001,Bo,abc\n", check), ("", header)]:
-            bad = self.write("bad.csv", text)
-            self.assertEqual(f"office: {bad}: {said}", self.refused("codes", bad))
-        self.assertFalse(os.path.exists(os.path.join(self.folder, "bad-with-codes.csv")))
-
-    def codes_in(self, path):
-        with open(path, encoding="utf-8-sig", newline="") as file:
-            return {number: code for number, _, code in csv.reader(file)}
-
-    def test_codes_of_the_office_stay(self):
-        known = self.codes_in(sample.TOP / "examples/candidates.csv")
-        path = self.write("c.csv", "number,name,code\n0001051,Di Berg,\n0001068,Ed Costa,\n0001085,Fi Dahl,ABCDEFGH\n"
-                                   "0009999,Bo,\n")
-        said = self.office("codes", path, "--output", "o.csv")
-        self.assertIn(": 1 code made for 4 rows, 2 filled from the office\n", said)
-        codes = self.codes_in(os.path.join(self.folder, "o.csv"))
-        self.assertEqual([codes["0001051"], codes["0001068"], codes["0001085"]],
-                         [known["0001051"], known["0001068"], "ABCDEFGH"])
-        said = self.office("codes", path, "--output", "p.csv", "--new", "0001051", "0001085")
-        self.assertIn(": 3 codes made for 4 rows, 1 filled from the office\n", said)
-        other = self.codes_in(os.path.join(self.folder, "p.csv"))
-        self.assertEqual(other["0001068"], known["0001068"])
-        self.assertFalse({other["0001051"], other["0001085"]} & {*known.values(), *codes.values()})
-        self.assertIn("0001000 is not in", self.refused("codes", path, "--output", "q.csv", "--new", "0001000"))
+            with self.assertRaisesRegex(Trouble, f"c.csv: {re.escape(said)}"):
+                coding.read(text.encode(), "c.csv")
+        self.assertEqual(coding.read(b"number,name,code\n0000001,Bo,\n", "c.csv"), [["0000001", "Bo", ""]])
 
     def test_a_lost_code(self):
-        self.assertEqual(self.office("codes", "--new", "0001051"), "candidates-with-codes.csv: 1 code made for 1 row\n")
-        self.assertEqual(self.office("import", "candidates", "candidates-with-codes.csv"), "added 0 changed 1 same 0\n")
-        code = self.codes_in(os.path.join(self.folder, "candidates-with-codes.csv"))["0001051"]
-        self.assertIn(f"0001051 Di Berg, access code {code}\n", self.office("look", "0001051", "--codes"))
-        self.assertIn("9999 is not in the office; a number has seven digits",
-                      self.refused("codes", "--new", "9999", "--output", "q.csv"))
-
-    def test_a_lost_code_at_once(self):
         """No file with a code is left, twice in a row; the name stays, the old code is told, and the copy has a name."""
         codes = [sample.CODE]
         for _ in range(2):
-            done = self.run_office("codes", "--new", sample.NUMBER, "--import")
+            done = self.run_office("codes", sample.NUMBER)
             self.assertEqual((done.returncode, done.stdout), (0, "added 0 changed 1 same 0\n"), done.stderr)
             self.assertEqual(done.stderr, "1 has another access code: 0001051 Di Berg; a slip with the old code opens "
                                           "nothing\n")
             codes += re.findall("0001051 Di Berg, access code (.*)\n", self.office("look", "0001051", "--codes"))
         self.assertEqual(len(set(codes)), 3)
         self.assertEqual([name for name in os.listdir(self.folder) if name.endswith(".csv")], [])
-        self.assertRegex(self.office("back"), "before codes --new 0001051\n")
-        both = self.run_office("codes", "--new", "0001051", "--import", "--output", "q.csv")
-        self.assertEqual(both.returncode, 2)
+        self.assertRegex(self.office("back"), "before codes 0001051\n")
+        self.assertIn("the office has no candidate 0009999", self.refused("codes", "1051", "9999"))
 
     def faults(self, session, change=lambda sheet: sheet):
         with Reading(self.value) as reading:

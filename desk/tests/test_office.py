@@ -71,7 +71,7 @@ class Words(sample.SampleSchool):
         os.mkfifo(pipe)
         for path in (pipe, self.folder):
             for words in (["import", "entries", path], ["what-if", "import", "--", "entries", path], ["notes", path],
-                          ["codes", path], ["slips", "--order", path], ["reinstate", "--list", path]):
+                          ["slips", "--order", path], ["reinstate", "--list", path]):
                 self.assertIn(f"office: {path}: is no file, but a folder, a pipe", self.refused(*words))
         self.assertFalse(os.path.exists(os.path.join(self.desk, "log")))
         for path in ("-", "/dev/stdin"):
@@ -79,9 +79,6 @@ class Words(sample.SampleSchool):
                              "added 0 changed 0 same 1\n")
             self.assertIn("0 of 1 row", self.run_office("reinstate", "--list", path, stdin="number,paper\n1000,MA-1\n").stdout)
             self.assertIn(">10B<", self.run_office("slips", "--order", path, stdin="number,group\n1000,10B\n").stdout)
-            self.assertEqual(self.office("codes", path, stdin="number,name,code\n0009000,Ann,\n"),
-                             "candidates-with-codes.csv: 1 code made for 1 row\n")
-            os.remove(os.path.join(self.folder, "candidates-with-codes.csv"))
         self.assertIn("  stdin line 2: number '1000': write 0001000",
                       self.refused("import", "entries", "/dev/stdin", stdin="number,paper\n1000,MA-1\n"))
 

@@ -64,12 +64,10 @@ class WhatIf(test_changing.Changing):
     def test_every_command_that_changes_the_office(self):
         """What each says on a copy is what it says over the office then, and nobody is asked."""
         facts = self.facts()
-        codes = self.write("new.csv", "number,name,code\n0009005,Eva,\n")
         leave = self.write("leave.csv", "number,paper\n0001017,CS-1\n0001017,MA-1\n")
         before = self.state()
         for words, line in ((["name", "1000", "Ada Lovelace"], r"1 has another name\n  0001000 .*Ada Lovelace"),
-                            (["codes", codes, "--import"], "added 1 changed 0 same 0\n"),
-                            (["codes", "--new", "1051", "--import"], "1 has another access code\n  0001051"),
+                            (["codes", "1051"], "1 has another access code\n  0001051"),
                             (["take", facts], "entries.csv: added 2 changed 0 same 172\n"),
                             (["open-hall", "MON-AM", "PC1", "12", "12:30"], "\n1 gets a desk\n"),
                             (["lodge", "1051", "MON-AM", "hall", "PC1", "a draught"],
@@ -119,9 +117,6 @@ class WhatIf(test_changing.Changing):
                          self.office("what-if", "take", facts) + "import all this? [y/N] ")
 
     def test_what_changes_nothing_is_refused_and_not_done(self):
-        self.write("candidates.csv", "number,name,code\n0009005,Eva,\n")
-        self.assertIn("`office codes` does not change the office; ", self.refused("what-if", "codes"))
-        self.assertFalse(os.path.exists(os.path.join(self.folder, "candidates-with-codes.csv")))
         for word in ("summary", "keep", "init", "what-if", "nothing"):
             self.assertIn(f"`office {word}` does not change the office; name a command that does: back, close-hall, codes, "
                           "decide, import, lodge, migrate, name, open-hall, reinstate, second-sitting, take, withdraw\n",

@@ -50,11 +50,9 @@ class Words(sample.SampleSchool):
         self.write("new.csv", "number,name,code\n0001051,Ann,\n")
         said = self.refused("import", "candidates", "new.csv")
         self.assertIn("office name NUMBER NAME", said)
-        self.assertIn("office codes FILE", said)
-        self.assertEqual(self.office("codes", "new.csv"),
-                         "new-with-codes.csv: 0 codes made for 1 row, 1 filled from the office\n")
+        self.assertIn("office take FILE --codes", said)
         code = self.row()[1]
-        self.assertEqual(self.office("import", "candidates", "new-with-codes.csv"), "added 0 changed 1 same 0\n")
+        self.assertIn("added 0 changed 1 same 0\n", self.office("take", "new.csv", "--codes", "--yes"))
         self.assertEqual(self.row(), ("Ann", code))
 
 

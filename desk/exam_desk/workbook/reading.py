@@ -128,8 +128,8 @@ def named_papers(job: Job, sheets: list[Sheet]) -> set[str]:
     """The codes of papers that the office has or a sheet of papers names, before anything is read."""
     codes = {code.decode() for code in job.known.keys["papers"] or ()} | {job.of_kind("papers").fixed.get("paper", "")}
     for sheet in sheets:
-        header = headers_of(job, sheet).get("papers")
-        for place in header.columns.get("paper", []) if header else []:
+        if (header := headers_of(job, sheet).get("papers")) and "paper" in header.columns:
+            [place, *_] = header.columns["paper"]
             codes |= {job.said("paper", cells.get(place)) for row, cells in sheet.rows.items() if row > header.row}
     return codes - {""}
 
@@ -143,12 +143,14 @@ def tables_of(job: Job, sheet: Sheet) -> list[Table]:
     if kinds and not is_named and not {*kinds} & {*job.together, *job.given}:
         job.note(f"is read as {[*kinds][0]}, by its header", sheet)
     found = [Table(job, kind, sheet, header) for kind, header in kinds.items() if header]
+    if not kinds or "entries" in kinds and not kinds["entries"]:
+        found += list_table(job, sheet, is_named)
     for kind in [kind for kind, header in kinds.items() if not header and kind != "entries"]:
         nearest = max(possible_headers(kind, sheet, job.of_kind(kind)), key=lambda header: len(header.columns))
         lacking = ", ".join(name for name in files.HEADERS[kind] if name not in nearest.columns)
         text = f"none of the first {WITHIN} rows is a header of {kind}; this one lacks {lacking}"
         job.mistake(text, sheet, nearest.row)
-    return found if kinds and kinds.get("entries", True) else [*found, *list_table(job, sheet, is_named)]
+    return found
 
 
 def list_table(job: Job, sheet: Sheet, is_named: bool) -> list[Table]:

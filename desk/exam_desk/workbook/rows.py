@@ -159,10 +159,10 @@ class Table(Headed):
         return [Record(self.sheet, row, places, fields)]
 
     def note_looks(self, row: int, here: Row) -> None:
-        for place, cell in sorted({**self.sheet.rows[row], **here}.items()):
-            if cell and cell.formula and place in here and cell.kind not in UNREAD:
+        for place, cell in sorted(self.sheet.rows[row].items()):
+            if cell.formula and place in here and cell.kind not in UNREAD:
                 self.note(row, place, "is a formula, whose last result is read", "formula")
-            elif cell and cell.struck and place not in here:
+            elif cell.struck and place not in here:
                 self.note(row, place, f"{shown_of(cell)!r} is struck out; the row is read", "struck")
 
     def read_marks(self, row: int, here: Row) -> dict[int, str]:
