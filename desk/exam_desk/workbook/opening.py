@@ -96,10 +96,7 @@ def decoded(data: bytes, encoding: str | None) -> str:
 
 
 def comma_of(lines: list[str]) -> str:
-    """What parts the columns of a CSV file: what its first line says, or what stands as often in most of the first
-    lines."""
-    if lines and (match := re.fullmatch(r"sep=([\t !#-~])", lines[0])):
-        return match[1]
+    """What parts the columns of a CSV file: what stands as often in most of the first lines."""
     bare = [re.sub('"[^"]*"', "", line) for line in lines]
     counts = {mark: Counter(line.count(mark) for line in bare if mark in line) for mark in ",;\t|"}
     return max(counts, key=lambda mark: max(((often, many) for many, often in counts[mark].items()), default=(0, 0)))
@@ -107,11 +104,8 @@ def comma_of(lines: list[str]) -> str:
 
 def read_csv(data: bytes, name: str, encoding: str | None = None) -> Book:
     """A file of one sheet whose cells are texts."""
-    text, budget = decoded(data, encoding), Budget()
-    lines = [line for line in text.splitlines()[:20] if line.strip()]
-    comma, sheet = comma_of(lines), Sheet(name)
-    if lines and lines[0] == f"sep={comma}":
-        text = text.replace(lines[0], "", 1)
+    text, budget, sheet = decoded(data, encoding), Budget(), Sheet(name)
+    comma = comma_of([line for line in text.splitlines()[:20] if line.strip()])
     try:
         for record in files.records(text.encode(), comma.encode()):
             if not record.closed:

@@ -84,7 +84,8 @@ class Table(Headed):
         """A value below a merged cell is one that nobody sees."""
         for row, place in places:
             if cell := seen(self.below.get(row, {}).get(place)):
-                self.mistake(row, place, f"{shown_of(cell)!r} is hidden by the merged cells {reach}: split them", "covered")
+                text = f"{shown_of(cell)!r} is hidden by the merged cells {reach}: split them"
+                self.mistake(row, place, text, "covered")
 
     def filled_by(self, reach: str, top: int, left: int, right: int, rows: range) -> dict[tuple[int, int], Cell]:
         """What a merged cell says for its rows."""
@@ -104,10 +105,8 @@ class Table(Headed):
             own = {place: seen(cells.get(place)) for place in places}
             here = {place: cell or filled.get((row, place)) for place, cell in own.items()}
             if not any(own.values()):
-                for place in [place for place in sorted(cells) if seen(cells[place])][:1]:
-                    text = f"{shown_of(cells[place])!r} stands beside empty columns; the row is not read"
-                    self.note(row, place, text, "beside")
-            elif all(folded(cell.text) == head.get(at) if cell else at not in head for at, cell in here.items()):
+                continue
+            if all(folded(cell.text) == head.get(at) if cell else at not in head for at, cell in here.items()):
                 self.note(row, None, "repeats the header; it is not read", "repeated")
             elif next(cell.text for cell in here.values() if cell).startswith(EXAMPLE):
                 text = f"{place_name(self.sheet, row)} is the example of the template; it is not read"

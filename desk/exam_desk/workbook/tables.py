@@ -163,11 +163,6 @@ class Headed:
     change = partialmethod(tell, "change")
     note = partialmethod(tell, "note")
 
-    def first_places(self, counts: Callable[[Cell], object]) -> dict[int, int]:
-        """Of each column with cells that count below the header the first row with one."""
-        return {place: row for row, cells in reversed(self.below.items()) for place, cell in cells.items()
-                if counts(cell)}
-
     # -- lines on the header
 
     def tell_header(self) -> None:
@@ -218,46 +213,49 @@ class Headed:
 
     def tell_columns(self) -> None:
         """What is wrong with a column, or that it is hidden or not read."""
-        row, there = self.header.row, self.first_places(seen)
-        others, crosses = self.first_places(lambda cell: not mark_of(cell)), {
-            place: row for place, row in self.first_places(lambda cell: mark_of(cell) == "yes").items()
-            if self.kind != "entries" or self.marks}
-        for place in sorted({*there, *self.head}):
-            cell, letter = self.head.get(place), letters_of(place)
-            first = crosses.get(place, 0)
-            if place in others and first and self.sheet.rows[first][place].kind == "number":
-                first = 0  # a number is a cross where a column has nothing else than 1 and 0
-            if wrong := self.fault_of(place, cell, first):
+        row, columns = self.header.row, {place: dict[int, Cell]() for place in self.head}
+        for line, place, cell in [(line, *each) for line, cells in self.below.items() for each in cells.items()]:
+            if seen(cell):
+                columns.setdefault(place, {})[line] = cell
+        for place, cells in sorted(columns.items()):
+            head = self.head.get(place)
+            if wrong := self.fault_of(place, head, cells):
                 self.mistake(row, place, wrong)
-            elif place in self.places and any(low <= place <= high for low, high in self.sheet.hidden_columns):
-                self.note(row, place, f"column {letter} is hidden; it is read")
-            elif cell is None:
-                self.note(there[place], place, f"column {letter} has values but no header; it is not read")
+            elif place in self.places and any(first <= place <= last for first, last in self.sheet.hidden_columns):
+                self.note(row, place, f"column {letters_of(place)} is hidden; it is read")
             elif place not in self.places:
-                self.note(row, place, f"the column {shown_of(cell).strip()!r} is not read")
+                name = repr(shown_of(head).strip()) if head else "with no header"
+                self.note(row if head else min(cells), place, f"the column {name} is not read")
 
-    def fault_of(self, place: int, cell: Cell | None, crossed: int) -> str:
-        """What is wrong with a column that has this header, or none, and its first cross in this row, or none; or ''.
-        """
-        said = cell.text.strip() if cell else ""
-        word, is_code = folded(said), files.is_code(said.encode("utf-8", "replace"))
-        name = SHORT_FEATURES.get(word) or NEAR.get(word)
-        if cell and cell.kind in UNREAD:
-            return f"its header is {UNREAD[cell.kind]}"
+    def fault_of(self, place: int, head: Cell | None, cells: Mapping[int, Cell]) -> str:
+        """What is wrong with a column that has this header, or none, and these cells below it; or ''."""
+        said = head.text.strip() if head else ""
+        if head and head.kind in UNREAD:
+            return f"its header is {UNREAD[head.kind]}"
         if place in self.places:
-            return f"the header {said!r} is struck out: delete the column, or take the line away if it counts" \
-                if cell and cell.struck else ""
+            why = f"the header {said!r} is struck out: delete the column, or take the line away if it counts"
+            return why if head and head.struck else ""
         is_list = is_called_list(said)
-        withdrawn = self.first_places(lambda cell: mark_of(cell) != "no" if is_list else is_called_list(cell.text))
-        if self.kind == "entries" and (row := withdrawn.get(place)):
-            where = place_name(self.sheet, row, place)
+        withdrawn = [row for row, cell in cells.items()
+                     if is_called_list(cell.text) or is_list and mark_of(cell) != "no"]
+        if self.kind == "entries" and withdrawn:
+            where = place_name(self.sheet, withdrawn[0], place)
             return f"{where} seems to say that an entry is withdrawn: delete each such row, then the column"
-        if self.paper and word in HEADER_WORDS["entries", "paper"] - {"code"}:
+        if self.paper and folded(said) in HEADER_WORDS["entries", "paper"] - {"code"}:
             return f"{said!r} names papers, as the sheet does: delete the column, or call the sheet Entries"
-        matters = {"entries": word not in OF_PEOPLE,
-                   "candidates": is_code or self.job.paper(cell) or word in SHORT_FEATURES}
-        if crossed and matters.get(self.kind, self.kind in MARKED and name):
-            cure = CROSSES.get(self.kind, f"call it {name}, and keep no column {MARKED.get(self.kind)} beside it")
-            what = repr(said) if said else "a column with no header"
-            return f"{what} has crosses ({place_name(self.sheet, crossed, place)}) which are not read: {cure}"
-        return ""
+        return self.fault_of_crosses(place, head, cells)
+
+    def fault_of_crosses(self, place: int, head: Cell | None, cells: Mapping[int, Cell]) -> str:
+        """What is wrong with crosses that are not read; numbers are crosses where there is nothing else than 1 and 0."""
+        said = head.text.strip() if head else ""
+        word, marks = folded(said), {row: mark_of(cell) for row, cell in cells.items()}
+        crosses = [row for row, mark in marks.items()
+                   if mark == "yes" and (cells[row].kind != "number" or all(marks.values()))]
+        name, is_code = SHORT_FEATURES.get(word) or NEAR.get(word), files.is_code(said.encode("utf-8", "replace"))
+        matters = {"entries": self.marks and word not in OF_PEOPLE,
+                   "candidates": is_code or self.job.paper(head) or word in SHORT_FEATURES}
+        if not crosses or not matters.get(self.kind, self.kind in MARKED and name):
+            return ""
+        cure = CROSSES.get(self.kind, f"call it {name}, and keep no column {MARKED.get(self.kind)} beside it")
+        what, where = repr(said) if said else "a column with no header", place_name(self.sheet, crosses[0], place)
+        return f"{what} has crosses ({where}) which are not read: {cure}"

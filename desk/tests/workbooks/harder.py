@@ -95,9 +95,9 @@ case("dates-in-words", xlsx(sheet("Sessions", SESSIONS, ["S1", "Tue 1 June 2027"
      only=True, mistakes=[["Sessions!B5", "Friday"], ["Sessions!B6"], ["Sessions!B7"], ["Sessions!B8"]],
      told=[["Sessions!B2", "2027-06-01"], ["Sessions!B3", "2027-06-02"], ["Sessions!B4", "2027-06-03"]])
 case("times-of-noise", xlsx(sheet("Sessions", SESSIONS, ["S1", "2027-06-01", ("n", "0.37500000000000006", TIME)], ["S2", "2027-06-02", ("n", "0.3749999999", TIME)],
-                                  ["S3", "2027-06-03", ("n", "1.375", TIME)], ["S4", "2027-06-04", "9:00 AM"], ["S5", "2027-06-05", "0930"])),
-     files={"sessions": ["S1,2027-06-01,09:00", "S2,2027-06-02,09:00", "S3,2027-06-03,09:00", "S4,2027-06-04,09:00", "S5,2027-06-05,09:30"]},
-     told=[["Sessions!C5", "9:00 AM", "09:00"], ["Sessions!C6", "09:30"]])
+                                  ["S4", "2027-06-04", "9:00 AM"], ["S5", "2027-06-05", "0930"])),
+     files={"sessions": ["S1,2027-06-01,09:00", "S2,2027-06-02,09:00", "S4,2027-06-04,09:00", "S5,2027-06-05,09:30"]},
+     told=[["Sessions!C4", "9:00 AM", "09:00"], ["Sessions!C5", "09:30"]])
 case("until", xlsx(sheet("Openings", OPENINGS, ["S1", "A", 10, ("n", "1", "[h]:mm"), "no"], ["S1", "B", 10, "24:00", "no"], ["S1", "C", 10, "00:00", "no"],
                          ["S1", "D", 10, ("n", "46539.5", "dd/mm/yyyy hh:mm"), "no"], ["S1", "E", 10, "12:00 am", "no"], ["S1", "F", 10, ("n", "1.5", "[h]:mm"), "no"])), 1,
      only=True, mistakes=[["Openings!D5", "2027-06-01"], ["Openings!D6", "24:00"], ["Openings!D7"]], told=[["Openings!D2", "24:00"], ["Openings!D4", "nobody"]])
