@@ -66,8 +66,7 @@ def made(source: str, new: str, given: Namespace, is_folder: bool, lines_name: s
     if job.count("mistake"):
         print(f"{counts}: nothing is written")
         return 1
-    for kind, count in write_folder(target, job, lines_name).items():
-        print(f"{kind}: {count}")
+    print(*write_folder(target, job, lines_name), sep="\n")
     print(f"{counts}: look through them in {plain(os.path.join(target, lines_name))}")
     return 0
 

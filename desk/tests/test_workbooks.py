@@ -170,7 +170,7 @@ class Limits(unittest.TestCase):
     def test_what_is_no_workbook_is_refused(self) -> None:
         letter = odd.changed(rawbook.ods(""), "content.xml", "office:spreadsheet", "office:text")
         self.refused("it is a document of another kind", letter)
-        self.refused("a part of it is broken .ExpatError", self.with_sheet("<worksheet><sheetData>"))
+        self.refused("it is broken or cut short .ExpatError", self.with_sheet("<worksheet><sheetData>"))
         with mock.patch.object(opening, "MOST_FILE", 9), self.assertRaisesRegex(Trouble, "it is larger than"):
             opening.book_of(b"number,nam", "candidates.csv")
         with self.assertRaisesRegex(Trouble, "cannot be read: it is no file"):
@@ -293,8 +293,8 @@ class Writing(unittest.TestCase):
     def test_a_second_file_of_a_kind_is_named(self):
         rows = [[f"{place:07}", "MA-1"] for place in range(5)]
         with tempfile.TemporaryDirectory() as folder, mock.patch("exam_desk.files.MOST_BYTES", 60):
-            self.assertEqual("5, in entries.csv and entries-2.csv and entries-3.csv", write_kind(folder, "entries", rows))
-            self.assertEqual("1", write_kind(folder, "halls", [["A", "B", "-"]]))
+            self.assertEqual("entries: 5, in entries.csv and entries-2.csv and entries-3.csv", write_kind(folder, "entries", rows))
+            self.assertEqual("halls: 1", write_kind(folder, "halls", [["A", "B", "-"]]))
             self.assertEqual(4, len(os.listdir(folder)))
 
     @needs_openpyxl

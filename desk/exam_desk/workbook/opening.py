@@ -21,6 +21,7 @@ OLD = b"\xd0\xcf\x11\xe0\xa1\xb1\x1a\xe1"  # of Microsoft's compound files
 OLD_FORM = "it is of the old form .xls: open it in a spreadsheet and save it as .xlsx or .ods"
 NO_UTF_8 = "its letters are no UTF-8: save it as CSV UTF-8, or say --encoding cp1252 if a Windows program of Western " \
     "Europe wrote it"
+UTF_16 = b"\xff\xfe", b"\xfe\xff"
 OTHERS = (b"<html", b"<!doctype", b"<table", b"<?xml", b"<meta", b"%pdf", b"{\\rtf")
 ALSO = {"xlsx": ("xlsx", "xlsm", "xltx", "xltm"), "ods": ("ods", "ots"), "csv": ("csv", "txt", "tsv")}
 
@@ -57,8 +58,7 @@ def is_zip(data: bytes, encoding: str | None) -> bool:
     if data.startswith((b"PK\3\4", b"PK\5\6")):
         return True
     start = data[:1000].lstrip(b"\xef\xbb\xbf \r\n\t").lower()
-    has_zeros = encoding is None and b"\0" in data[:1000]
-    if start.startswith(OTHERS) or has_zeros and data[:2] not in (b"\xff\xfe", b"\xfe\xff"):
+    if start.startswith(OTHERS) or encoding is None and b"\0" in data[:1000] and not data.startswith(UTF_16):
         raise Trouble(NO_WORKBOOK)
     return False
 
@@ -83,10 +83,8 @@ def ask_child(what: str, data: bytes) -> bytes:
 
 def decoded(data: bytes, encoding: str | None) -> str:
     """The letters of a CSV file, without half ones."""
-    if encoding is None:
-        encoding = "utf-16" if data[:2] in (b"\xff\xfe", b"\xfe\xff") else "utf-8-sig"
     try:
-        text = data.decode(encoding)
+        text = data.decode(encoding or ("utf-16" if data.startswith(UTF_16) else "utf-8-sig"))
         text.encode()
         return text
     except UnicodeError:

@@ -268,16 +268,16 @@ def new_folder(target: str) -> Iterator[str]:
         shutil.rmtree(making, ignore_errors=True)
 
 
-def write_folder(target: str, job: Job, lines_name: str) -> dict[str, str]:
-    """Makes the folder with the files and all lines; says of each kind how many rows it has. Raises `Trouble` where a
-    line is a mistake."""
+def write_folder(target: str, job: Job, lines_name: str) -> list[str]:
+    """Makes the folder with the files and all lines of the reading; gives what is said of each kind. Raises `Trouble`
+    where a line is a mistake."""
     if job.count("mistake"):
         raise Trouble("there are mistakes, so nothing is written", target)
     with new_folder(target) as making:
         text = "".join(f"{plain(line.whole())}\n" for line in job.lines)
         files.put(os.path.join(making, lines_name), text.encode("utf-8", "backslashreplace"))
-        return {kind: write_kind(making, kind, (record.fields for record in records))
-                for kind, records in job.records.items()}
+        return [write_kind(making, kind, [record.fields for record in records])
+                for kind, records in job.records.items()]
 
 
 def write_kind(folder: str, kind: str, rows: Iterable[list[str]]) -> str:
@@ -286,7 +286,7 @@ def write_kind(folder: str, kind: str, rows: Iterable[list[str]]) -> str:
     for name, text, _ in parts:
         files.put(os.path.join(folder, name), text)
     where = f", in {' and '.join(name for name, *_ in parts)}" if len(parts) > 1 else ""
-    return f"{sum(count for *_, count in parts)}{where}"
+    return f"{kind}: {sum(count for *_, count in parts)}{where}"
 
 
 def workbook_of(rows: Rows | None) -> bytes:
