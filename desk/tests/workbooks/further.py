@@ -348,7 +348,7 @@ in_candidates("struck-column", ods_row(*ADA), columns='<table:table-column table
      'style:text-line-through-type="double"/></style:style>', status=1,
      mistakes=[["Candidates!A2", "struck"]])
 case("text-not-there-is-named",  xlsx(candidates(["0000001",  ("raw",  '<c r="{ref}" t="s"><v>999</v></c>'),
-     "CODE0001"])),  1,  stderr=["Candidates!B2 refers to a text that is not there"])
+     "CODE0001"])),  1,  stderr=["a cell refers to a text that is not there"])
 case("dates-by-odd-formats",  xlsx(sheet("Sessions",  SESSIONS,  ["S1",  ("n",  "46539",  "mmmmm"),  ("n",  "0.375",
      "h:mm a/p")],  ["S2",  ("n",  "46540",  "[$-407]d. mmmm yyyy"),  ("n",  "0.375",  "h:mm am/pm")],  ["S3",  ("n",
      "46541",  "[$-D07041E]d/m/yyyy"),  ("n",  "0.375",  'h" Uhr"')])),  files={"sessions": ["S1,2027-06-01,09:00",

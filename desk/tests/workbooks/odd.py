@@ -47,9 +47,9 @@ case("rounded", xlsx(candidates([("n", "16.6", "0"), "Ada Lin", "CODE0001"]),
                              ["Papers!D2", "is the number 1.5, but shown as 2"], ["Papers!D3", "a whole number"]])
 case("two-numbers-of-one", xlsx(candidates([("n", "17", "0-0"), "Ada Lin", "CODE0001"])), 1, only=True, mistakes=[["Candidates!A2", "a format of its own"]])
 case("stored-nonsense", xlsx(candidates([("raw", '<c r="{ref}"><v>1_7</v></c>'), "Ada Lin", "CODE0001"])), 1,
-     stderr=["Candidates!A2 is broken"])
+     stderr=["it is broken"])
 case("stored-too-much", xlsx(candidates([("raw", '<c r="{ref}"><v>1e99999999999</v></c>'), "Ada Lin", "CODE0001"])), 1,
-     stderr=["Candidates!A2 is broken"])
+     stderr=["it is broken"])
 case("formula-of-text-without-result", xlsx(candidates(["0000001", "Ada Lin", ("raw", '<c r="{ref}" t="str"><f>A1</f></c>')],
      ["0000002", "Bo Berg", ("raw", '<c r="{ref}" t="str"><f>A1</f><v></v></c>')])), 1, only=True, mistakes=[["Candidates!C2", "formula"]])
 
@@ -148,7 +148,7 @@ case("struck-and-odd", xlsx(candidates(["0000001", ("strike", "Fran\u00c3\u00a7o
 case("text-under-a-format-of-numbers", xlsx(candidates([("t", "0000001", "@ 0"), *ADA[1:]])), files={"candidates": [ADA_LINE]},
      told=[["Candidates!A2", "0000001"]])
 case("column-of-other-letters", xlsx(candidates([ADA[0], ("raw", '<c r="\u00c92" t="inlineStr"><is><t>Ada Lin</t></is></c>'), ADA[2]])), 1,
-     stderr=["is broken"])
+     stderr=["it is broken or cut short (ValueError: '\u00c9' is no column)"])
 case("numbers-beyond-all-digits", xlsx(candidates([("n", "1e30", "0"), *ADA[1:]], [("n", "-1e999999", "General"), *BO[1:]])), 1, only=True,
      mistakes=[["Candidates!A2", "1.00000E+30"], ["Candidates!A3", "-1.00000E+999999"]])
 case("row-of-headers-words", xlsx(sheet("Candidates", [*CANDIDATES, "Form"], [*ADA, None], ["0000002", "Hall", "CODE0002", "Exam"])),
