@@ -81,18 +81,6 @@ def ask_child(what: str, data: bytes) -> bytes:
     return done.stdout
 
 
-def decoded(data: bytes, encoding: str | None) -> str:
-    """The letters of a CSV file, without half ones."""
-    try:
-        text = data.decode(encoding or ("utf-16" if data.startswith(UTF_16) else "utf-8-sig"))
-        text.encode()
-        return text
-    except UnicodeError:
-        raise Trouble(NO_UTF_8) from None
-    except LookupError:
-        raise Trouble(f"there is no encoding {encoding}") from None
-
-
 def comma_of(lines: list[str]) -> str:
     """What parts the columns of a CSV file: what stands as often in most of the first lines."""
     bare = [re.sub('"[^"]*"', "", line) for line in lines]
@@ -102,9 +90,10 @@ def comma_of(lines: list[str]) -> str:
 
 def read_csv(data: bytes, name: str, encoding: str | None = None) -> Book:
     """A file of one sheet whose cells are texts."""
-    text, budget, sheet = decoded(data, encoding), Budget(), Sheet(name)
-    comma = comma_of([line for line in text.splitlines()[:20] if line.strip()])
+    budget, sheet = Budget(), Sheet(name)
     try:
+        text = data.decode(encoding or ("utf-16" if data.startswith(UTF_16) else "utf-8-sig"))
+        comma = comma_of([line for line in text.splitlines()[:20] if line.strip()])
         for record in files.records(text.encode(), comma.encode()):
             if not record.closed:
                 raise Trouble(f"a quote is not closed in line {record.line}")
@@ -113,6 +102,10 @@ def read_csv(data: bytes, name: str, encoding: str | None = None) -> Book:
                     budget.keep(shown)
                     told = re.sub(r'\A="([^"]*)"\Z', r"\1", shown)  # some programs write ="0000017" for the zeros
                     sheet.rows.setdefault(record.line, {})[column] = Cell("text", told, shown)
+    except UnicodeError:
+        raise Trouble(NO_UTF_8) from None
+    except LookupError:
+        raise Trouble(f"there is no encoding {encoding}") from None
     except csv.Error:
         raise Trouble(f"one of its fields has more than {files.MOST_BYTES:,} bytes: is a quote not closed?") from None
     named = "tabs" if comma == "\t" else comma

@@ -73,28 +73,24 @@ class Table(Headed):
             covered += max(1, min(bottom, self.last) - top)
             if covered > MOST_MERGED:
                 raise Trouble(f"its merged cells cover more than {MOST_MERGED:,} rows")
-            if bottom >= self.header.row and (read := [place for place in self.places if left <= place <= right]):
-                reach = f"{letters_of(left)}{top}:{letters_of(right)}{bottom}"
-                rows = range(max(top, self.header.row + 1), min(bottom, self.last) + 1)
-                self.look_below(reach, [(row, place) for row in rows for place in read if (row, place) != (top, left)])
-                filled |= self.filled_by(reach, top, left, right, rows)
+            if bottom >= self.header.row and any(left <= place <= right for place in self.places):
+                filled |= self.filled_by(top, left, bottom, right)
         return filled
 
-    def look_below(self, reach: str, places: list[tuple[int, int]]) -> None:
-        """A value below a merged cell is one that nobody sees."""
-        for row, place in places:
-            if cell := seen(self.below.get(row, {}).get(place)):
+    def filled_by(self, top: int, left: int, bottom: int, right: int) -> dict[tuple[int, int], Cell]:
+        """What a merged cell says for its rows. A value below it is one that nobody sees."""
+        reach, rows = f"{letters_of(left)}{top}:{letters_of(right)}{bottom}", range(top, min(bottom, self.last) + 1)
+        under = [(row, place) for row in rows for place in self.below.get(row, ()) if left <= place <= right]
+        for row, place in under:
+            cell = seen(self.below[row][place]) if place in self.places and (row, place) != (top, left) else None
+            if cell:
                 text = f"{shown_of(cell)!r} is hidden by the merged cells {reach}: split them"
                 self.mistake(row, place, text, "covered")
-
-    def filled_by(self, reach: str, top: int, left: int, right: int, rows: range) -> dict[tuple[int, int], Cell]:
-        """What a merged cell says for its rows."""
         cell = seen(self.sheet.rows.get(top, {}).get(left))
         if cell and left != right:
             self.mistake(top, left, f"{reach} is merged over columns: split it")
         elif cell and top > self.header.row:
-            text = f"{reach} is merged: {shown_of(cell)} counts for rows {top} to {rows.stop - 1}"
-            self.change(top, left, text, "merged")
+            self.change(top, left, f"{reach} is merged: {shown_of(cell)} counts for rows {top} to {rows[-1]}", "merged")
             return dict.fromkeys([(row, left) for row in rows[1:]], cell)
         return {}
 

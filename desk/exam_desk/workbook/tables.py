@@ -144,17 +144,14 @@ class Headed:
         self.fixed = {**fixed, "paper": self.paper} if self.paper else fixed  # of a column a value for all rows
         self.places = {place for places in self.header.columns.values() for place in places}  # columns that are read
         self.marks: dict[int, str] = {}  # of a column of crosses its feature or paper
-        if MARKED.get(self.kind) not in (None, *self.header.columns, *self.fixed):
-            self.marks = self.columns_of_crosses()
-            self.places |= set(self.marks)
-
-    def columns_of_crosses(self) -> dict[int, str]:
-        """The columns that are not read yet below features, for entries those below the codes of papers."""
         free = {place: cell for place, cell in self.head.items() if place not in self.places}
-        if self.kind == "entries":
-            return {place: code for place, cell in free.items() if (code := self.job.paper(cell))}
-        return {place: SHORT_FEATURES[word] for place, text in text_cells(free).items()
-                if (word := folded(text)) in SHORT_FEATURES}
+        if MARKED.get(self.kind) in (None, *self.header.columns, *self.fixed):
+            return
+        for place, cell in free.items():
+            name = self.job.paper(cell) if self.kind == "entries" else SHORT_FEATURES.get(folded(cell.text[:200]))
+            if name:
+                self.marks[place] = name
+        self.places |= set(self.marks)
 
     def tell(self, sort: str, row: int | None, column: int | None, text: str, what: str = "") -> None:
         self.job.tell(sort, text, self.sheet, row, column, what)
@@ -246,7 +243,7 @@ class Headed:
         return self.fault_of_crosses(place, head, cells)
 
     def fault_of_crosses(self, place: int, head: Cell | None, cells: Mapping[int, Cell]) -> str:
-        """What is wrong with crosses that are not read; numbers are crosses where there is nothing else than 1 and 0."""
+        """What is wrong with crosses that are not read; numbers are some where there is nothing else than 1 and 0."""
         said = head.text.strip() if head else ""
         word, marks = folded(said), {row: mark_of(cell) for row, cell in cells.items()}
         crosses = [row for row, mark in marks.items()
