@@ -50,8 +50,7 @@ def check_folder(office: Office, folder: str, tell: Tell, progress: Progress) ->
     refused, tried = list[str](), list[str]()
     if texts and not counts["mistakes"]:
         if counts["codes"]:
-            had = {number: code for number, _, code in coding.in_office(office).values()}
-            rows, _ = coding.filled(coding.read(texts["candidates"], "candidates.csv"), had)
+            rows, _ = coding.filled(coding.read(texts["candidates"], "candidates.csv"), coding.in_office(office))
             texts["candidates"] = files.file_of("candidates", rows)
         refused, tried = would_do(office, texts, tell, progress)
         counts["mistakes"] = len(refused)

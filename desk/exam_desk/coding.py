@@ -7,7 +7,7 @@ import secrets
 from collections.abc import Mapping
 from typing import TYPE_CHECKING
 
-from exam_desk import files, lists, mistakes, snapshot
+from exam_desk import facts, files, lists, mistakes, snapshot
 from exam_desk.changing import Step
 from exam_desk.office import Office, NoCandidate, Trouble
 
@@ -17,12 +17,12 @@ if TYPE_CHECKING:
 LETTERS, DIGITS, LENGTH = "BCDFGHJKMNPQRSTVWXYZ", "23456789", 10
 
 
-def in_office(office: Office) -> dict[str, list[str]]:
-    """The row of each candidate of the office, by number; none where there is no office yet."""
+def in_office(office: Office) -> dict[str, str]:
+    """The access codes of the office, by number; none where there is no office yet."""
     if not os.path.exists(office.path):
         return {}
     with snapshot.rows(office) as connection:
-        return {row[0]: row for row in files.rows_of(connection, "candidates")}
+        return facts.access_codes(connection)
 
 
 def read(text: bytes, path: str) -> list[list[str]]:
@@ -58,7 +58,8 @@ def filled(rows: list[list[str]], known: Mapping[str, str]) -> tuple[list[list[s
 def other_rows(office: Office, numbers: list[str], name: str | None = None) -> Step:
     """The import of candidates with another name and the same code, or without a name with another code. Raises
     `Trouble` where nobody has a number, or it is no name."""
-    rows = in_office(office)
+    with snapshot.rows(office) as connection:
+        rows = {row[0]: row for row in files.rows_of(connection, "candidates")}
     if missing := [number for number in numbers if number not in rows]:
         raise NoCandidate(missing[0])
     if name is not None and not files.is_name(name.encode("utf-8", "surrogateescape")):
@@ -73,8 +74,7 @@ def other_rows(office: Office, numbers: list[str], name: str | None = None) -> S
 def add_codes(office: Office, job: Job) -> None:
     """Gives each candidate who was read without a code one: that of the office for the number, else a new one."""
     records = job.records.get("candidates", [])
-    rows, made = filled([record.fields for record in records],
-                        {number: code for number, _, code in in_office(office).values()})
+    rows, made = filled([record.fields for record in records], in_office(office))
     job.records["candidates"] = [record._replace(fields=row) for record, row in zip(records, rows)]
     job.lines = [line for line in job.lines if line.what != mistakes.NO_CODE]
     if made and not job.count("mistake"):

@@ -10,8 +10,7 @@ from typing import NamedTuple
 
 from exam_desk import files, mistakes
 from exam_desk.workbook.cells import Cell, Sheet, letters_of, place_name
-from exam_desk.workbook.headers import (HEADER_WORDS, MARKED, OF_PEOPLE, Given, Header, folded, is_called_list, seen,
-                                        text_cells)
+from exam_desk.workbook.headers import HEADER_WORDS, MARKED, OF_PEOPLE, Given, Header, folded, is_called_list, seen
 from exam_desk.workbook.values import (NEAR, SHORT_FEATURES, UNREAD, Value, Way, Wrong, mark_of, read_value,
                                            shown_of)
 
@@ -151,6 +150,7 @@ class Headed:
             name = self.job.paper(cell) if self.kind == "entries" else SHORT_FEATURES.get(folded(cell.text[:200]))
             if name:
                 self.marks[place] = name
+                self.header.twice.setdefault(name, []).append(place)
         self.places |= set(self.marks)
 
     def tell(self, sort: str, row: int | None, column: int | None, text: str, what: str = "") -> None:
@@ -189,8 +189,7 @@ class Headed:
             verb = "columns {} are" if len(others) > 1 else "the column {} is"
             text = f"{verb.format(', '.join(others))} read from {', '.join(others.values())}"
             self.note(self.header.row, None, text)
-        twice = {name: [place for place in self.marks if self.marks[place] == name] for name in self.marks.values()}
-        for name, places in {**self.header.twice, **twice}.items():
+        for name, places in self.header.twice.items():
             if len(places) > 1:
                 columns = ", ".join(map(letters_of, places))
                 self.mistake(self.header.row, places[1], f"columns {columns} could all be {name}: keep one header, or "
