@@ -49,7 +49,6 @@ DATES = [re.compile(form) for form in (  # the first form that a text has counts
     r"(?:(?P<weekday>[^\W\d]+),? )?(?P<name>[^\W\d]+)\.? (?P<day>[0-9]{1,2})(?:st|nd|rd|th)?,? (?P<year>[0-9]{4})",
     r"[0-9]{1,2}[/.-][0-9]{1,2}[/.-](?P<short>[0-9]{2})")]
 AS_TEXT = re.compile(r"([0-9]{1,2})([/.-])([0-9]{1,2})\2([0-9]{2}|[0-9]{4})")  # however a spreadsheet shows a date
-BOTH_DATES = "? Write it so"
 NO_DAY = ("1899-12-30", "1904-01-01")  # what stands in front of a time alone
 HOURS = re.compile(r"([0-9]{1,2})(?::([0-5][0-9])(?::00)?|"
                    r" ?(?:h|hrs?|hours?|Std\.?) ?(?:([0-5]?[0-9]) ?(?:min|mins|minutes|m)?)?)", re.I)
@@ -282,7 +281,8 @@ def slashed(first: int, second: int, year: str, way: Way) -> Value:
                          f", {way.dates}" if way.dates else "")
     if not dates:
         raise Wrong(f"is no date with the {way.dates.replace('-', ' ')}" if way.dates else mistakes.CURES["date"])
-    raise Wrong(f"{' or '.join(dates.values())}{BOTH_DATES}{way.or_say('--dates day-first or --dates month-first')}")
+    options = way.or_say("--dates day-first or --dates month-first")
+    raise Wrong(f"{' or '.join(dates.values())}? Write it so{options}")
 
 
 # -- times of day, minutes, desks and percent
