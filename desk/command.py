@@ -1,8 +1,7 @@
 """What all commands of the desk share: how they are named, which office they mean, and how they speak.
 
-OFFICE names another file than office.db, TODAY another date than the clock's (or a date and a time), EXAMOFFICE another
-program. The package exam_desk reads none of these: a command hands an `Office` on. What not every command needs is
-imported where it is used, since that is most of the time in which `office look` answers.
+The package exam_desk reads no environment: a command hands an `Office` on. What not every command needs is imported
+where it is used, since that is most of the time in which `office look` answers.
 """
 from __future__ import annotations
 
@@ -31,7 +30,6 @@ if TYPE_CHECKING:
 
 DESK = os.path.dirname(os.path.realpath(__file__))
 OFFICE = os.path.join(DESK, "office")
-BAR = 24  # letters of a bar that is full
 MOST_LINE = 1 << 16  # bytes of a line on standard input
 MANY, FEW = 500, 100  # of so many questions, the progress is shown after each few
 READ_AS: dict[str, Callable[[str], object]] = {"number": typed.number, "across": int}  # by the name of an argument
@@ -67,8 +65,7 @@ def parser_of(name: str, words: Sequence[str]) -> Parser:
 def given_as_typed(parser: Parser, usage: str) -> list[str]:
     """The words of a command as they are, since a reason may look like an option; unless they ask for help alone."""
     parser.usage = f"{parser.prog} {usage}"
-    if sys.argv[1:2] in (["--help"], ["-h"]):
-        parser.parse_args()
+    parser.parse_args(sys.argv[1:2] if sys.argv[1:2] in (["--help"], ["-h"]) else [])
     return sys.argv[1:]
 
 
@@ -91,17 +88,15 @@ def given(parser: Parser, *words: str) -> argparse.Namespace:
 
 def with_reason(words: list[str]) -> list[str]:
     """The words of a command that ends with a reason; for a `-` the line of standard input that has it, so that it is in
-    no history of a shell. Raises `Trouble` where no line comes in, or several."""
-    if words[-1] == "-":
-        is_asked = sys.stdin.isatty()
-        if is_asked:
-            say("reason or answer, in one line: ")
-        given = sys.stdin.buffer.readline(MOST_LINE) if is_asked else sys.stdin.buffer.read(MOST_LINE)
-        first, _, rest = given.decode("utf-8", "surrogateescape").partition("\n")
-        if not given or rest.strip():
-            raise Trouble(f"a reason or an answer is one line; {'several' if given else 'none'} came in: nothing is done")
-        words[-1] = first.rstrip("\r")
-    return words
+    no history of a shell. Raises `Trouble` where not one line comes in."""
+    if words[-1] != "-":
+        return words
+    if sys.stdin.isatty():
+        say("reason or answer, in one line: ")
+    lines = (sys.stdin.buffer.readline if sys.stdin.isatty() else sys.stdin.buffer.read)(MOST_LINE).splitlines()
+    if len(lines) != 1:
+        raise Trouble("a reason or an answer is one line; none came in, or several: nothing is done")
+    return [*words[:-1], lines[0].decode("utf-8", "surrogateescape")]
 
 
 def begin() -> None:
@@ -183,13 +178,10 @@ def ask(question: str) -> None:
         raise Trouble("nothing is changed")
 
 
-def progress(text: str, part: float | None = None) -> None:
-    """Shows on a terminal how far a command is: a text, behind a bar where the part that is done is known, from 0 to 1.
-    An empty text takes the line away."""
+def progress(text: str) -> None:
+    """Shows on a terminal how far a command is; an empty text takes the line away."""
     if sys.stderr.isatty():
-        full = round(BAR * min(max(part or 0, 0), 1))
-        bar = "" if part is None else f"[{'#' * full}{' ' * (BAR - full)}] "
-        sys.stderr.write(f"{CLEAR}{bar}{plain(text)}" if text else CLEAR)
+        sys.stderr.write(f"{CLEAR}{plain(text)}")
         sys.stderr.flush()
 
 
@@ -206,11 +198,8 @@ def tell_consequences(copy: str | None) -> None:
     """Says on standard error what a change did to candidates that is done, from the copy of before it."""
     if copy is not None:
         from exam_desk import effects
-        progress("it is done; who sits otherwise now?")
-        lines = effects.done(office(), copy, show_asked)
-        progress("")
         with contextlib.suppress(OSError):  # whoever reads no more has what the program said
-            complain(lines)
+            complain(effects.done(office(), copy, show_asked))
 
 
 def office() -> Office:
@@ -240,7 +229,7 @@ def reading(path: str | None = None) -> Reading:
 
 def show_asked(done: int, of: int) -> None:
     if of >= MANY and (done % FEW == 0 or done == of):
-        progress("" if done == of else f"{done:,} of {of:,} candidates", done / of)
+        progress("" if done == of else f"{done:,} of {of:,} candidates")
 
 
 def program() -> str:

@@ -57,9 +57,10 @@ def lacking(reading: Reading, sessions: list[str], is_list: bool) -> Iterator[st
                    f"`office absent {session} --nobody` notes that nobody was")
         if noted and noted.gone:
             yield f"the exam board's list lacks who is noted as absent and has left {session}: {few(noted.gone)}"
-    for first, second in second_sitting.pairs(reading.rows) if is_list else ():
-        if first["session"] in sessions and second["session"] not in sessions:
-            yield f"{first['code']} is sat in {second['session']} too: `office absent {second['session']}` lists it"
+    if is_list:
+        yield from (f"{first['code']} is sat in {second['session']} too: `office absent {second['session']}` lists it"
+                    for first, second in second_sitting.pairs(reading.rows)
+                    if first["session"] in sessions and second["session"] not in sessions)
 
 
 def numbers(words: list[str]) -> list[str]:

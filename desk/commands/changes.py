@@ -4,8 +4,7 @@ from __future__ import annotations
 from functools import partial
 
 import command
-from exam_desk.office import Office, Trouble
-from exam_desk.words import plain
+from exam_desk.office import Trouble
 
 
 @command.named("""Lists the copies from before each change, or puts one back: back [NUMBER [--yes]].
@@ -15,30 +14,26 @@ from exam_desk.words import plain
     office back 1 --yes    without a question, for scripts
 
 It names each appeal and each decision that is taken away: in the question, in the answer and in the log. If more came
-while the question stood, or somebody changed the office, it asks again. A copy of the office as it is now is kept
-first, so that can be taken back too. Notes, the name of the school, rows of desks, printed desks and absences stay as
-they are: it names those that were others in the copy.
+while the question stood, or somebody changed the office, nothing is done. A copy of the office as it is now is kept
+first. Notes, the name of the school, rows of desks, printed desks and absences stay as they are: it names those that
+were others in the copy.
 """, changes=True)
 def back(parser: command.Parser) -> command.Plan:
     from commands import programs
     from exam_desk import copies
-    given, office = command.given(parser, "number?: a number of the list", "--yes: do not ask"), command.office()
+    parser.add_argument("number", metavar="NUMBER", type=int, nargs="?", help="of the list")
+    given = command.given(parser, "--yes: do not ask")
     if given.number is None:
-        return partial(list_copies, office)
-    if not given.number.isdecimal():
-        parser.error(f"'{given.number}' is no number of a copy; `office back` lists them")
-    place = int(given.number)
-    return programs.Back(title=f"back {place}", copy=copies.chosen(office, place), is_agreed=given.yes)
+        return list_copies
+    copy = copies.chosen(command.office(), given.number)
+    return programs.Back(title=f"back {given.number}", copy=copy, is_agreed=given.yes)
 
 
-def list_copies(office: Office) -> None:
-    from exam_desk import copies, logbook
-    found, made = copies.listed(office), logbook.made(office)
-    if not found:
-        print("no copies")
-    for number, copy in enumerate(found, 1):
-        when, what = copies.when_and_what(copy)
-        print(f"{number:3}  {when}  before {plain(what)}{'  (older than the last `office init`)' * (when < made)}")
+def list_copies() -> None:
+    from exam_desk import copies
+    lines = [f"{number:3}  {when}  before {what}" for number, (when, what)
+             in enumerate(map(copies.when_and_what, copies.listed(command.office())), 1)]
+    command.say_lines(lines or ["no copies"])
 
 
 @command.named("""\
@@ -59,7 +54,7 @@ def open_hall(parser: command.Parser) -> command.Plan:
     if wrong := typed.wrong(names, row):
         parser.error("; ".join(wrong))
     step = second_sitting.imported("openings", [*row, "yes" if given.reserved else "no"])
-    return programs.Change([step], " ".join(["open-hall", *row]) + " --reserved" * given.reserved)
+    return programs.Change(steps=[step], title=" ".join(["open-hall", *row]) + " --reserved" * given.reserved)
 
 
 @command.named("""\
@@ -70,17 +65,18 @@ Lodges an appeal at the counter, for a candidate who is there: lodge NUMBER SESS
     office lodge 0001051 MON-AM arrangement screen+reader 25 ''    other needs and extra time
 
 It goes the candidates' way, over HTTP, with the candidate's code from the file, through `keep` where that serves. It
-makes the reference, D1, D2 and so on, and prints it with the state. Then decide it: `office decide 0001051 D1 ..`.
-With - as REASON it reads a line from standard input: so the reason is in no history and in no list of processes.
-""", changes=True)
-def lodge(parser: command.Parser) -> command.Plan:
+makes the reference, D1, D2 and so on, and prints it with the state. `office decide 0001051 D1 ..` decides it, and
+`office what-if decide ..` says first what that comes to. With - as REASON it reads a line from standard input: so the
+reason is in no history and in no list of processes.
+""")
+def lodge(parser: command.Parser) -> int:
     from commands import programs
-    from exam_desk import typed
+    from exam_desk import lodging, typed
     words = command.given_as_typed(parser, "NUMBER SESSION KIND VALUE .. REASON")
     words[:1] = map(typed.number, words[:1])
-    if wrong := typed.wrong_of_lodging(words) or typed.wrong_of_lodging(command.with_reason(words)):
+    if wrong := typed.wrong_of_lodging(words) or typed.wrong_of_lodging(words := command.with_reason(words)):
         parser.error("; ".join(wrong))
-    return programs.Lodging(words=words)
+    return programs.said(*lodging.lodge(command.office(), words))
 
 
 @command.named("""Gives a candidate another name: name NUMBER NAME
@@ -94,7 +90,8 @@ def name(parser: command.Parser) -> command.Plan:
     from commands import programs
     from exam_desk import coding
     given = command.given(parser, "number", "name")
-    return programs.Change([coding.other_rows(command.office(), [given.number], given.name)], f"name {given.number}")
+    step = coding.other_rows(command.office(), [given.number], given.name)
+    return programs.Change(steps=[step], title=f"name {given.number}")
 
 
 @command.named("""Lets a candidate with two papers at once sit one of them later: second-sitting NUMBER PAPER START HALL
@@ -105,8 +102,8 @@ def name(parser: command.Parser) -> command.Plan:
 
 It makes a session of the same day at this start (as S1-2), a paper in it (SP-1-2), a desk in the hall until 24:00, and
 an entry, and withdraws the entry for PAPER: all of it or nothing. A second candidate with the same start and hall joins
-the session, and the paper if it is the same one. It refuses a start before the finish of the other paper, one at which
-the candidate sits something else, and a hall that does not suit. --undo leaves the session and the paper, empty.
+the session. It refuses a start before the finish of the other paper, one at which the candidate sits something else,
+and a hall that does not suit. --undo leaves the session and the paper, empty.
 """, changes=True)
 def second_sitting(parser: command.Parser) -> command.Plan:
     from commands import programs
@@ -120,21 +117,18 @@ def second_sitting(parser: command.Parser) -> command.Plan:
     with command.reading() as now:
         plan = (second_sitting.plan_back(now, given.number, given.paper) if given.undo else
                 second_sitting.plan(now, given.number, given.paper, given.start, given.hall))
-        return programs.Asked(plan.steps, plan.title, own=partial(second_sitting.lines, plan), question="do this?",
-                              done="done", is_agreed=given.yes, made_for=now.name)
+        return programs.Asked(steps=plan.steps, title=plan.title, own=partial(second_sitting.lines, plan),
+                              is_agreed=given.yes, made_for=now.name)
 
 
 @command.named("""Says what a change would do, and does not do it: what-if COMMAND ..
 
     office what-if close-hall MON-AM GYM
-    office what-if import entries new-entries.csv
     office what-if decide 0001051 D1 granted ''
-    office what-if withdraw --list leave.csv
     office what-if take school.xlsx
-    office what-if back 1         what `office back 1` would do, and which appeals and decisions it would take away
-    office what-if lodge ..       whether the appeal can be lodged, and what a grant of it would come to
+    office what-if back 1         also which appeals and decisions it would take away
 
-It takes each command that changes the office, carries it out on a private copy, asks nothing, and prints what came of
+It takes each command that changes seats, carries it out on a private copy, asks nothing, and prints what came of
 it; then who would lose a desk, move, get one, join or leave, at most 20 of each. The status is that of the command.
 """)
 def what_if(parser: command.Parser) -> int:
@@ -143,11 +137,8 @@ def what_if(parser: command.Parser) -> int:
     own = {name: each for name, each in command.COMMANDS.items() if each.changes}
     name = "".join(words[:1])
     plan = own[name].run(command.parser_of(name, words[1:])) if name in own else programs.of_program([name, *words[1:]])
-    if name in command.COMMANDS and command.COMMANDS[name].run.__module__ == "commands.beside":
-        raise Trouble(f"`office {name} ..` changes no seat, so there is nothing to rehearse; `office {name}` alone "
-                      "shows what is kept, and `office printed` which papers are out of date by it")
     if not isinstance(plan, programs.Change):
-        why = f"`office {name}` does not change the office; " if name else ""
+        why = f"`office {name}` changes no seat; " if name else ""
         raise Trouble(f"{why}name a command that does: {', '.join(sorted([*own, *programs.CHANGES]))}")
     with programs.rehearsed(plan) as (status, _):
         return status

@@ -6,25 +6,24 @@ import os
 import subprocess
 import sys
 from collections.abc import Callable, Iterator, Sequence
-from dataclasses import dataclass, field, replace
+from dataclasses import dataclass
 
 import command
-from exam_desk import (beside, changing, copies, effects, files, listed, lists, lodging, logbook, notebook,
+from exam_desk import (beside, changing, copies, effects, files, listed, lists, notebook,
                        private, refusals, running, snapshot, turns, typed)
 from exam_desk.changing import Answered, Rehearsal, Step
 from exam_desk.office import Office, Stale, Trouble
 from exam_desk.reading import Reading
 from exam_desk.running import Ran
-from exam_desk.words import Said, few, plain
+from exam_desk.words import Said, plain
 
 MIGRATE = "migrate"
-CHANGES = ["import", "withdraw", "reinstate", "close-hall", "decide", MIGRATE]
-LISTED = {"withdraw": ["--list FILE.csv", "<number> --all"], "reinstate": ["--list FILE.csv"]}  # how a list is typed
+NUMBERED = ["withdraw", "reinstate", "decide"]  # they begin with the number of a candidate
+CHANGES = ["import", "close-hall", MIGRATE, *NUMBERED]
 LIST_HELP = """
 With the entries of a file, whose header is number,paper: office {0} --list FILE.csv
-  One copy of the office is kept, and each row has a line in the log. Where a number or a paper is not known nothing is
-  changed; zeros in front of a number may be left out. A row that is refused is printed, and the others are carried out;
-  `office back 1` takes all of it back.
+  Where a number or a paper is not known nothing is changed. A row that is refused is printed, and the others are carried
+  out; `office back` lists the copy that takes all of it back.
 """
 ALL_HELP = """
 Each entry that is to come of a candidate who leaves, in the same way: office withdraw NUMBER --all
@@ -37,7 +36,7 @@ HELP = {"withdraw": LIST_HELP + ALL_HELP, "reinstate": LIST_HELP, "decide": DECI
 MOST_NAMED = 20  # of those who lose a desk, move or sit otherwise
 
 
-@dataclass
+@dataclass(kw_only=True)
 class Change:
     """A step of the program, at once. It is carried out by a call, which gives the status."""
     steps: Sequence[Step] = ()
@@ -62,8 +61,6 @@ class Change:
 @dataclass(kw_only=True)
 class Asked(Change):
     """Steps of the program, whole or not at all, behind a rehearsal and a question."""
-    question: str
-    done: str
     is_agreed: bool  # so that nobody is asked
     made_for: str = ""  # the name of the state that the steps were made for, where they are for no other
 
@@ -84,12 +81,12 @@ class Asked(Change):
                 print("the office has all this already: nothing is changed")
                 return 0
             if not self.is_agreed:
-                command.ask(self.question)
+                command.ask("do this?")
             carried = changing.carry_out(command.office(), self.steps, made_from, promised, self.title,
                                          command.progress)
         command.progress("")
         refuse(carried.answers)
-        print(f"{self.done}; `office changes 1` says who must be told, `office back 1` takes it back")
+        print("done; `office changes 1` says who must be told, `office back 1` takes it back")
         if carried.as_promised is False:
             command.warn("the office is not as the trial said: look with `office changes 1`")
         return 0
@@ -100,11 +97,9 @@ class List(Change):
     """Steps of the program, each by itself: one that is refused leaves the others."""
     rows: listed.Rows
     is_over: Callable[[list[Answered]], object] = listed.is_hopeless
-    before: list[str] = field(default_factory=list)  # the lines of rows that were done before
 
     def said(self, rehearsal: Rehearsal) -> int:
         statuses = [*map(self.said_of_row, self.rows, rehearsal.answers)]
-        self.say_before()
         print(f"{statuses.count(0)} of {lists.count(len(self.rows), 'row')} would be done")
         return int(statuses.count(0) < len(self.rows))
 
@@ -112,108 +107,60 @@ class List(Change):
         statuses: list[int] = []
         carried = listed.carry_out(command.office(), self.title, self.rows,
                                    lambda line, answered: statuses.append(self.said_of_row(line, answered)))
-        self.say_before()
+        done = sum(answered.ran.status == 0 for answered in carried.answers)
+        tally = (f"{done} of {lists.count(len(self.rows), 'row')} done"
+                 + "; `office back` lists the copy that takes all of it back" * (carried.copy is not None))
         if carried.signal:
-            command.warn(self.stopped(carried))
+            command.warn(f"stopped: {tally}; look whether the next row is done; give the same list again to go on")
         else:
-            put(f"{self.tally(carried)}{way_back(carried.copy)}\n")
+            put(f"{tally}\n")
         command.tell_consequences(carried.copy)
         if carried.signal:
             raise carried.signal
-        return int(any(statuses) or len(carried.answers) < len(self.rows))
+        return int(any(statuses) or done < len(self.rows))
 
     def said_of_row(self, line: int, answered: Answered) -> int:
-        """Prints what became of a row, unless it was done before and there is no more to say of it; the status."""
+        """Prints what became of a row; the status."""
         words, status = f"line {line}: {answered.step.title()}: {answered.first_line()}", answered.ran.status
         if not status:
             return int(not put(f"{plain(words)}\n"))
-        why = answered.explained(command.office())
-        is_before = refusals.number_of(answered.first_line()) == refusals.DONE_ALREADY[answered.step.words[0]]
-        if is_before and len(why) == 1:
-            self.before.append(str(line))
-        else:
-            command.complain([words, *why])
+        command.complain([words, *answered.explained(command.office())])
         return status
 
-    def say_before(self) -> None:
-        if self.before:
-            why = refusals.SENTENCES[refusals.DONE_ALREADY[self.steps[0].words[0]]]
-            command.complain([f"{lists.count(len(self.before), 'row')} refused (line {few(self.before)}): {why}"])
 
-    def tally(self, carried: changing.Carried) -> str:
-        done = sum(answered.ran.status == 0 for answered in carried.answers)
-        return f"{done} of {lists.count(len(self.rows), 'row')} {'is' if 1 in (done, len(self.rows)) else 'are'} done"
-
-    def stopped(self, carried: changing.Carried) -> str:
-        """What is said where a signal stops it."""
-        over = len(carried.answers)
-        refused = sum(answered.ran.status != 0 for answered in carried.answers)
-        titles = [f"line {line}, {step.title()}" for line, step in self.rows.items()]
-        last = f"; the last was {titles[over - 1]}" if over else ""
-        following = (f"; look whether the next is done, {titles[over]}; give the same list again to go on"
-                     if over < len(titles) else "")
-        return f"stopped: {self.tally(carried)}, and {refused} refused{last}{following}{way_back(carried.copy)}"
-
-
-@dataclass
+@dataclass(kw_only=True)
 class Back(Change):
     """A copy in the place of the office."""
-    copy: str = ""
-    is_agreed: bool = False
+    copy: str
+    is_agreed: bool
 
     def said(self, rehearsal: Rehearsal) -> int:
-        office = rehearsal.office
-        self.tell("would be", copies.losses(office, self.copy), notebook.others_than_in(office, self.copy))
+        self.tell("would be", copies.losses(rehearsal.office, self.copy))
         return 0
 
-    def tell(self, verb: str, taken: list[Said], others: list[str]) -> None:
+    def tell(self, verb: str, taken: list[Said]) -> None:
         """Says what is taken away, and what is left as it is beside the office though the copy has it otherwise."""
+        others = notebook.others_than_in(command.office(), self.copy)
         left = [f"left as they are now, and otherwise in the copy: {', '.join(others)}"] if others else []
         command.say_lines([f"the office {verb} {copies.state_of(self.copy)}",
                            *(f"taken away: {line}" for line in taken), *left])
 
     def __call__(self) -> int:
-        """It asks again where the office changed while the question stood, or appeals and decisions came."""
-        office = command.office()
-        when, what = copies.when_and_what(self.copy)
-        others = notebook.others_than_in(office, self.copy)
-        seen, taken, why = changing.state_of(office), copies.losses(office, self.copy), ""
-        while True:
-            if not self.is_agreed:
-                command.say_lines(f"taken away: {line}" for line in taken)
-                command.ask(f"{why}put back the office of {when}, before `{plain(what)}`? What was done since then is "
-                            "undone.")
-            done = changing.go_back(office, self.title.split(), self.copy, lambda lines: self.is_agreed or (
-                (seen, taken) == (changing.state_of(office), lines)))
-            if done.is_done:
-                break
-            before, seen, taken = seen, changing.state_of(office), done.lines
-            _, last = copies.when_and_what(copies.listed(office)[0])
-            by = f" by `{plain(last)}`" * (seen != before)
-            why = f"the office has changed since the question{by}, and nothing is done yet: "
-        self.tell("is", done.lines, others)
+        """Does nothing where the office changed while the question stood, or appeals and decisions came."""
+        office, seen = command.office(), None
+        taken = copies.losses(office, self.copy)
+        if not self.is_agreed:
+            seen = changing.state_of(office)
+            when, what = copies.when_and_what(self.copy)
+            command.say_lines(f"taken away: {line}" for line in taken)
+            command.ask(f"put back the office of {when}, before `{plain(what)}`? What was done since then is undone.")
+        done = changing.go_back(office, self.title.split(), self.copy,
+                                lambda lines: self.is_agreed or lines == taken, seen)
+        if not done.is_done:
+            raise Stale("other appeals or decisions would be taken away by now, so nothing is changed: give it again")
+        self.tell("is", done.lines)
         command.tell_consequences(done.copy)
         return 0
-
-
-@dataclass
-class Lodging(Change):
-    """An appeal, over HTTP."""
-    words: Sequence[str] = ()
-
-    def said(self, rehearsal: Rehearsal) -> int:
-        """A lodging moves nobody: it shows what a grant behind it would come to, which no other rehearsal can."""
-        lodged = lodging.lodge(replace(rehearsal.office, path=rehearsal.after), self.words)
-        status = said(*lodged)
-        if not status:
-            command.say("lodging moves nobody; if you granted it afterwards:\n")
-            grant = lodging.grant(lodged)
-            rehearsal.answers.append(Answered(grant, running.run_over(rehearsal.office, rehearsal.after, *grant.words)))
-            said(*rehearsal.answers[-1])
-        return status
-
-    def __call__(self) -> int:
-        return said(*lodging.lodge(command.office(), self.words))
 
 
 @contextlib.contextmanager
@@ -253,20 +200,8 @@ def dispatch(office: Office, words: list[str]) -> Ran:
     as they are; only a terminal gets what hides in names as `?`."""
     if words == ["init"]:
         return changing.make_new(office)
-    if words[0] == "check" and os.path.isfile(office.path):  # changes no facts, but needs the office for itself
-        # With a log it is an office that is used, and `back` leaves one file; a copy of the desk has all there was.
-        place = os.path.realpath(office.path)
-        seen = (f"{place}-wal", beside.folder(place, logbook.NAME), os.path.join(os.path.dirname(place), copies.TITLE))
-        is_lacking = not any(map(os.path.exists, seen)) and f"/desk-{office.base_name()}/{beside.DAYS}/" not in place
-        with contextlib.suppress(OSError), turns.alone(office, words):
-            ran = changing.run_patiently(office, changing.Step(tuple(words)))
-            if is_lacking and ran.status == 0:
-                command.warn(f"NOTE {office.base_name()}-wal does not lie beside it: in a backup the last appeals may "
-                             "be lacking")
-            if open_for_others := [each for each in (place, beside.folder(place)) if beside.others_can_read(each)]:
-                names = " ".join(map(os.path.basename, open_for_others))
-                command.warn(f"NOTE other users can read what lies here: `chmod -R go= {names}`")
-            return ran
+    if words[0] == "check" and os.path.isfile(office.path):
+        return check(office)
     if words[0] not in running.SHEETS:
         return running.run_over(office, office.path, *words, output=None)
     with contextlib.ExitStack() as stack:
@@ -277,35 +212,44 @@ def dispatch(office: Office, words: list[str]) -> Ran:
     return ran._replace(answer="\n".join(map(plain, ran.answer.split("\n"))))
 
 
+def check(office: Office) -> Ran:
+    """It changes no facts, but needs the office for itself. Says also what the program cannot know: that a file was
+    brought alone, and that others can read it. A copy of the desk has all there was."""
+    place = os.path.realpath(office.path)
+    is_alone = not (os.path.exists(f"{place}-wal") or os.path.exists(beside.folder(place))
+                    or f"/desk-{office.base_name()}/" in place)
+    with contextlib.suppress(OSError), turns.alone(office, ["check"]):
+        ran = changing.run_patiently(office, Step(("check",)))
+        if is_alone and ran.status == 0:
+            command.warn(f"NOTE {office.base_name()}-wal does not lie beside it: in a backup the last appeals may be "
+                         "lacking")
+        if shown := [os.path.basename(each) for each in (place, beside.folder(place)) if beside.others_can_read(each)]:
+            command.warn(f"NOTE other users can read what lies here: `chmod -R go= {' '.join(shown)}`")
+        return ran
+    return running.run_over(office, office.path, "check", output=None)
+
+
 def of_program(words: list[str]) -> Change | None:
     """The change that a command of the program makes; None where it makes none. Raises `Trouble` where it is a list
-    with a mistake. A number comes first, where the program takes one; it says so."""
+    with a mistake."""
     match words:
         case ["withdraw" | "reinstate" as name, "--list", path]:
             return of_list(name, path)
         case ["withdraw", number, "--all"]:
             rows = listed.of_candidate(command.office(), number)
-            return List([*rows.values()], f"withdraw {rows[1].words[1]} --all", rows=rows)
-        case ["reinstate", _, "--all"]:
-            raise Trouble("--all goes with `withdraw` alone; `office back` lists the copy from before that, which "
-                          "takes it back, and `office reinstate NUMBER PAPER` takes one entry back")
+            return List(steps=[*rows.values()], title=f"withdraw {rows[1].words[1]} --all", rows=rows)
         case ["decide", *_, _, _, _, "-"]:
             words = command.with_reason(words)
     if words[0] not in CHANGES:
         return None
     first = 2 if words[1:2] == ["--"] else 1
-    whole = [*words[:first], *map(typed.number, words[first:first + 1]), *words[first + 1:]]
-    if whole != words and running.takes(running.help_text(command.office(), words[0]))[:1] == ["number"]:
-        words = whole
-    return Change([Step(tuple(words), rows_given(words))])
-
-
-def rows_given(words: Sequence[str]) -> bytes | None:
-    """The bytes of an import's file, before the office is taken; None where it cannot be read, as the program says."""
+    if words[0] in NUMBERED:
+        words = [*words[:first], *map(typed.number, words[first:first + 1]), *words[first + 1:]]
     _, path = refusals.imported(words) or ("", "")
-    with contextlib.suppress(OSError):
-        return files.read(path, command.warn)
-    return None
+    data = None
+    with contextlib.suppress(OSError):  # the program says so of an import
+        data = files.read(path, command.warn)  # before the office is taken
+    return Change(steps=[Step(tuple(words), data)])
 
 
 def of_list(name: str, path: str) -> List:
@@ -315,13 +259,7 @@ def of_list(name: str, path: str) -> List:
         command.complain(wrong)
         raise Trouble("nothing is changed")
     about = changing.named("entries", (tuple(map(str.encode, step.words[1:])) for step in rows.values()))
-    return List([*rows.values()], " ".join([name, "--list", os.path.basename(path), *about]), rows=rows)
-
-
-def way_back(copy: str | None) -> str:
-    """How a list is taken back; nothing where it has changed nothing."""
-    is_last = copies.listed(command.office())[:1] == [copy]  # else others have had their turn
-    return f"; `office back{' 1`' if is_last else '` lists the copy that'} takes all of it back" if copy else ""
+    return List(steps=[*rows.values()], title=" ".join([name, "--list", os.path.basename(path), *about]), rows=rows)
 
 
 def refuse(answers: list[Answered]) -> None:
@@ -345,18 +283,11 @@ def said(step: Step, ran: Ran) -> int:
     """Prints what the program said of a step, and what a refusal of it means; the status."""
     if not put(ran.answer):
         ran = ran._replace(status=1, complaint=ran.complaint + "write fault\n")
-    words, lines = step.words, list[str]()
+    lines = list[str]()
     if ran.status in (0, 1):
         lines = Answered(step, ran).explained(command.office())
     elif ran.status == 2:
-        text = running.help_text(command.office(), words[0])
-        wrong = typed.wrong(running.takes(text), [word for word in words[1:] if word != "--"]) if text else []
-        usage = [line for line in text.split("\n") if line][1:]
-        usage[1:1] = [f"       office {words[0]} {form}" for form in LISTED.get(words[0], [])]
-        if words[0] in LISTED and "--list" in words[1:2]:
-            wrong = ["--list takes one file"]
-        lines = [f"  {line}" for line in
-                 [*wrong, *usage] or [f"`office --help` lists the commands{meant(words[0])}"]]
+        lines = usage(*step.words)
     elif ran.status > 128:
         lines = [f"  {ran.ending()}; {refusals.WHOLE_OR_NOT}"]
     sys.stderr.write(ran.complaint)
@@ -364,8 +295,11 @@ def said(step: Step, ran: Ran) -> int:
     return ran.status
 
 
-def meant(name: str) -> str:
-    """What a word that is no command may stand for."""
-    import difflib  # here, since a slip alone needs it
-    found = difflib.get_close_matches(name, [*command.COMMANDS, *CHANGES, *running.SHEETS, "init", "check", "serve"], 1)
-    return f"; is `office {found[0]}` meant?" if found else ""
+def usage(name: str, *words: str) -> list[str]:
+    """What is wrong with words that the program does not understand, and how its command is given."""
+    text = running.help_text(command.office(), name)
+    if not text:
+        return ["  `office --help` lists the commands"]
+    wrong = typed.wrong(running.takes(text), [word for word in words if word != "--"])
+    more = [f"`office {name} --help` has other forms"] if name in HELP else []
+    return [f"  {line}" for line in [*wrong, *[line for line in text.split("\n") if line][1:], *more]]

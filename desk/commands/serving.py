@@ -7,7 +7,7 @@ import sys
 import command
 from exam_desk.office import Trouble
 
-PORT, DAYS = "8080", 30
+PORT = "8080"
 FIRST, PORTS = 8717, 20  # the first port of a desk that is tried where none is given, and how many after it
 PYTHON = "/usr/bin/python3"  # that has Debian's modules
 READY = """The desk of {} is open. In a browser:
@@ -59,41 +59,28 @@ Serves candidates day after day, and steps aside for each change of the office: 
 
 Another user of the machine can take a port while `keep` is away. A folder that is yours and holds nothing else is safe:
 its group may use the socket, so give it the group of nginx. At each new day `keep` keeps a copy of the office, and
-serves with the new date; where `serve` fails or hangs it begins anew. A candidate notices nothing of the gaps: each
-request waits up to 30 seconds for its answer. It writes to keep.log in desk-office.db, beside the copies of days.
+serves with the new date; where `serve` fails or hangs it begins anew. Each request waits up to 30 seconds for its
+answer meanwhile. It writes to keep.log in desk-office.db, beside the copies of days.
 """)
 def keep(parser: command.Parser) -> bool:
     from exam_desk import beside, keeping, turns
     parser.add_argument("what", choices=["start", "run", "stop", "status"])
-    parser.add_argument("place", type=place_of, nargs="?", default=PORT, help="a port, or a folder for the socket")
-    parser.add_argument("--days", type=int, default=DAYS, help=f"how many copies of days are kept ({DAYS})")
+    parser.add_argument("place", nargs="?", default=PORT, help="a port, or a folder for the socket")
     given = parser.parse_args()
-    if given.days < 1:
-        parser.error("DAYS is 1 or more")
+    if not (place := keeping.place_of(given.place)):
+        parser.error(f"{given.place} is neither a port, 1 to 65535, nor a folder")
     # one whose file is gone may be served still
     office = command.office() if turns.keep_state(command.office()) else command.existing_office()
     beside.refuse_stranger(office.path)
     beside.refuse_strange(beside.folder(office.path))
     if given.what == "run":
-        keeping.run(office, given.place, given.days)
+        keeping.run(office, place)
         return False
     if given.what == "stop":
         keeping.stop(office)
         print("ended")
         return False
-    where = os.path.dirname(given.place) or given.place
     status = (keeping.status(office) if given.what == "status" else
-              keeping.start(office, [sys.executable, command.OFFICE, "keep", "run", where, "--days", str(given.days)]))
+              keeping.start(office, [sys.executable, command.OFFICE, "keep", "run", given.place]))
     print(status.sentence)
     return not status.serves
-
-
-def place_of(given: str) -> str:
-    """A port, or the path of the socket in a folder."""
-    from argparse import ArgumentTypeError
-    from exam_desk import keeping
-    if given.isascii() and given.isdigit() and 1 <= int(given) <= 65535:
-        return str(int(given))
-    if not os.path.isdir(given):
-        raise ArgumentTypeError(f"{given} is neither a port, 1 to 65535, nor a folder")
-    return os.path.join(os.path.abspath(given), keeping.SOCKET)

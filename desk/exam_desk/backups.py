@@ -1,35 +1,35 @@
-"""A backup: what is handed out as a zip; and what somebody brings, such a zip or the files of an office. That becomes a
-copy in a private folder, which is looked at and put in the place of the office as other copies are.
+"""A backup: what is handed out as a zip; and such a zip that somebody brings. That becomes a copy in a private folder,
+which is looked at and put in the place of the office as other copies are.
 
 Its bytes may be anybody's. The two files get the names of this office, and the rest is left but for what has the name
 of a notebook's file. A zip may say of its files that they are as large as all copies may be, and gives no more of them
 than it says. The program looks at the office first.
 """
 import contextlib
-import functools
 import json
 import os
 import pathlib
 import shutil
 import zipfile
 import zlib
-from collections.abc import Callable, Iterator, Mapping
+from collections.abc import Iterator
 from typing import IO
 
 from exam_desk import beside, copies, files, logbook, notebook, private, running
 from exam_desk.office import Office, Trouble
 from exam_desk.workbook.cells import PASSWORD
 
-OFFICE, ZIP = b"SQLite format 3\0", b"PK\3\4"  # how their bytes begin
-MOMENT, NEVER = "{:04}-{:02}-{:02} {:02}:{:02}:{:02}", (1980, 1, 1, 0, 0, 0)  # what a zip has where nobody said it
+OFFICE = b"SQLite format 3\0"  # how its bytes begin
+MOMENT = "{:04}-{:02}-{:02} {:02}:{:02}:{:02}"  # of a file in a zip
 MOST_PARTS = 2000
 MOST_NOTES = 16 << 20  # bytes of a file of a notebook
-NO_OFFICE = "there is no office in it: bring the zip that the page Office hands out, or office.db and office.db-wal"
+NO_OFFICE = "there is no office in it: bring the zip that the page Office hands out, or one of office.db and office.db-wal"
 SEVERAL = "there are several offices in it: bring one of them alone"
-BROKEN = "it is broken or cut short: bring it again, or another backup"
+ALONE = ("its second file, whose name ends in -wal, is not in it, and can hold the last changes: bring a zip of both; where "
+         "there is no second file an empty one does")
+BROKEN = "it is no zip, or broken or cut short: bring it again, or another backup"
 TOO_LARGE = "it is larger than any office"
 UNREADABLE = (zipfile.BadZipFile, zipfile.LargeZipFile, zlib.error, RuntimeError, EOFError, OSError, ValueError)
-Parts = Mapping[str, Callable[[], IO[bytes]]]  # by name, what opens them
 
 
 def fill(office: Office, folder: str) -> None:
@@ -45,84 +45,60 @@ def fill(office: Office, folder: str) -> None:
 
 
 @contextlib.contextmanager
-def brought(office: Office, given: Mapping[str, IO[bytes]]) -> Iterator[tuple[str, bool]]:
-    """The path of a copy of what was brought, as long as the context lasts, and whether it came without its second
-    file. Raises `Trouble` where that is no good office; one of an earlier version is carried over."""
+def brought(office: Office, name: str, content: IO[bytes]) -> Iterator[tuple[str, str]]:
+    """The path of a copy of a zip that was brought, as long as the context lasts, and when the last of its files was
+    written. Raises `Trouble` where that is no good office; one of an earlier version is carried over."""
     with copies.workplace(office) as folder:
-        copy = os.path.join(folder, copies.named(0, next(iter(given), "")))
+        copy = os.path.join(folder, copies.named(0, name))
         os.mkdir(copy, 0o700)
         path = copies.file_in(office, copy)
         try:
-            with contextlib.ExitStack() as stack:
-                unpack(parts_of(given, stack), path)
+            with zipfile.ZipFile(content) as archive:
+                unpack(archive, path)
+                when = MOMENT.format(*max(part.date_time for part in archive.infolist()))
         except UNREADABLE as fault:
             if isinstance(fault, OSError) and fault.errno in private.ELSEWHERE:  # of this disk
                 raise
             raise Trouble(BROKEN) from fault
-        is_alone = not os.path.exists(path + "-wal")
         copies.check(office, path)
         running.run_over(office, path, "migrate")
-        yield copy, is_alone
+        yield copy, when
 
 
-def written(given: Mapping[str, IO[bytes]]) -> str:
-    """When the last of the files that were brought was written, as far as a zip says it; else nothing."""
-    found = [part.date_time for stream in given.values() if from_the_start(stream).read(len(ZIP)) == ZIP
-             for part in zipfile.ZipFile(stream).infolist()]
-    return MOMENT.format(*max(found, default=NEVER)) if max(found, default=NEVER) > NEVER else ""
-
-
-def parts_of(given: Mapping[str, IO[bytes]], stack: contextlib.ExitStack) -> Parts:
-    """The files that were brought, and in the place of a zip what it holds, as long as the stack lasts."""
-    found: dict[str, Callable[[], IO[bytes]]] = {}
-    for name, stream in given.items():
-        if stream.read(len(ZIP)) != ZIP:
-            found[name] = functools.partial(from_the_start, stream)
-            continue
-        archive = stack.enter_context(zipfile.ZipFile(stream))
-        parts = archive.infolist()
-        if any(part.flag_bits & 1 for part in parts):
-            raise Trouble(PASSWORD)
-        if len(parts) > MOST_PARTS or sum(part.file_size for part in parts) > copies.MOST_BYTES:
-            raise Trouble(TOO_LARGE)
-        found |= {part.filename: functools.partial(archive.open, part) for part in parts}
-    return found
-
-
-def from_the_start(stream: IO[bytes]) -> IO[bytes]:
-    stream.seek(0)
-    return stream
-
-
-def unpack(parts: Parts, path: str) -> None:
-    """Copies the one office among the parts to a path, and its notebook into the folder beside."""
-    office, notes = office_of(parts, path), notes_of(parts, os.path.join(os.path.dirname(path), notebook.PLACE))
-    if notes:
-        os.mkdir(os.path.dirname(next(iter(notes))), 0o700)
-    for target, opened in {**office, **notes}.items():
+def unpack(archive: zipfile.ZipFile, path: str) -> None:
+    """Copies the one office of a zip to a path, and its notebook into the folder beside."""
+    parts = archive.infolist()
+    if any(part.flag_bits & 1 for part in parts):
+        raise Trouble(PASSWORD)
+    if len(parts) > MOST_PARTS or sum(part.file_size for part in parts) > copies.MOST_BYTES:
+        raise Trouble(TOO_LARGE)
+    os.mkdir(folder := os.path.join(os.path.dirname(path), notebook.PLACE), 0o700)
+    for target, part in {**office_of(archive, path), **notes_of(archive, folder)}.items():
         with open(target, "xb", opener=private.no_link) as file:
-            shutil.copyfileobj(opened(), file)
+            shutil.copyfileobj(archive.open(part), file)
             os.fsync(file.fileno())
-    for note in map(pathlib.Path, notes):
-        if note.stat().st_size > MOST_NOTES:
-            raise Trouble(TOO_LARGE)
-        json.loads(note.read_bytes())
 
 
-def office_of(parts: Parts, path: str) -> Parts:
-    """The two files of the one office among the parts, by the paths that they get."""
-    found = [name for name, opened in parts.items() if opened().read(len(OFFICE)) == OFFICE]
+def office_of(archive: zipfile.ZipFile, path: str) -> dict[str, str]:
+    """The names of the two files of the one office in a zip, by the paths that they get."""
+    names = archive.namelist()
+    found = [name for name in names if archive.open(name).read(len(OFFICE)) == OFFICE]
     if len(found) != 1:
         raise Trouble(SEVERAL if found else NO_OFFICE)
-    return {path + ending: parts[found[0] + ending] for ending in ("", "-wal") if found[0] + ending in parts}
+    if f"{found[0]}-wal" not in names:
+        raise Trouble(ALONE)
+    return {path + ending: found[0] + ending for ending in private.ENDINGS}
 
 
-def notes_of(parts: Parts, folder: str) -> Parts:
-    """The files of a notebook among the parts, by the paths that they get in a folder."""
+def notes_of(archive: zipfile.ZipFile, folder: str) -> dict[str, str]:
+    """The names of the files of a notebook in a zip, which the desk can read, by the paths that they get."""
     found = {}
-    for name, opened in parts.items():
-        [*_, place, base] = ["", "", *pathlib.PureWindowsPath(name).parts]
+    for part in archive.infolist():
+        [*_, place, base] = ["", "", *pathlib.PureWindowsPath(part.filename).parts]
         match = notebook.NAME.fullmatch(base) if place == notebook.PLACE else None
         if match and match[1] in notebook.KINDS and (match[2] is None or files.is_code(match[2].encode())):
-            found[os.path.join(folder, base)] = opened
+            if part.file_size > MOST_NOTES:
+                raise Trouble(TOO_LARGE)
+            json.loads(archive.read(part))
+            found[os.path.join(folder, base)] = part.filename
     return found

@@ -303,16 +303,15 @@ def way_back(copy: str) -> str:
 
 
 def way_on(office: Office, found: logbook.Unfinished) -> str:
-    """What is said of a change without an end in the log: how far it came, and which copy takes it back."""
+    """What is said of a change without an end in the log, and which copy takes it back."""
     what = f"`{found.command}` of {found.when} was broken off"
     copy = beside.folder(office.path, copies.PLACE, found.copy)
-    if not found.copy or copy not in copies.listed(office):
+    if copy not in copies.listed(office):
         return f"{what}, and there is no copy from before it: look what is done"
     with contextlib.suppress(Trouble):
         if state_of(office) == snapshot.name_now(office, copies.file_in(office, copy)):
             return f"{what}, and the office is as before: give it again"
-    count = found.count and f", after {found.count} at least"
-    return f"{what} behind `{found.done or found.begun or found.command}`{count}: {way_back(copy)}"
+    return f"{what}: {way_back(copy)}"
 
 
 def make_new(office: Office) -> running.Ran:

@@ -66,7 +66,7 @@ def other_rows(office: Office, numbers: list[str], name: str | None = None) -> S
         raise Trouble("a name has 1 to 80 bytes and no control characters")
     taken = {code for _, _, code in rows.values()}
     changed = [[number, rows[number][1], new_code(taken)] if name is None else [number, name, rows[number][2]]
-               for number in numbers]
+               for number in dict.fromkeys(numbers)]
     title = f"{'name' if name is not None else 'code'} of {', '.join(numbers)}"
     return Step(("import", "candidates", title), files.file_of("candidates", changed))
 
@@ -83,7 +83,7 @@ def add_codes(office: Office, job: Job) -> None:
 
 def steps_of(job: Job) -> list[Step]:
     """The imports of what was read, in order. `Trouble` at a mistake, as where nothing was read, or an empty code."""
-    from exam_desk.workbook.reading import file_parts  # here, since `office name` needs no workbook
+    from exam_desk.workbook.reading import file_parts  # here, since a code or a name needs no workbook
     if count := job.count("mistake"):
         raise Trouble(f"{lists.count(count, 'mistake')}: nothing is changed")
     if empty := sum(not record.fields[2] for record in job.records.get("candidates", [])):

@@ -3,7 +3,6 @@ lost by that: appeals, decisions, and the office itself where the copy is of oth
 import contextlib
 import datetime
 import filecmp
-import json
 import os
 import pathlib
 import re
@@ -16,26 +15,20 @@ from exam_desk import appeals, beside, files, notebook, private, running
 from exam_desk.office import Office, Trouble
 from exam_desk.words import Said, plain
 
-MOST_COPIES = 50
+MOST_COPIES, MOST_DAYS = 50, 30  # from before changes, and of days
 MOST_BYTES = 1 << 30
 MOST_LETTERS, MOST_TITLE = 100, 400  # of a command in the name of a copy, and in its title
 PLACE, TITLE = "copies", "title"  # of copies, of the command in one
-BACK = ("back to ", "undoing ", "redoing ")  # with one begins the title of a copy from before another was put back
+BACK = "back to "  # with it begins the title of a copy from before another was put back
 NAME = re.compile(r"(?:([0-9]+) )?([0-9]{4}-[0-9]{2}-[0-9]{2}) ([0-9.]{8,15}) (.*)")  # version 1.0.0 gave no numbers
 DAY = re.compile("[0-9]{4}-[0-9]{2}-[0-9]{2}")
-REDOING = {"undoing": "redoing", "redoing": "undoing"}
 EMPTY_LOG = 41  # bytes of a second file that holds no change
 UNKNOWN = "nobody can say which appeals and decisions, since what the office holds now cannot be read"
-OTHERS = ("{gone} of {candidates} candidates and {over} of {sessions} sessions of the office are not in it, and "
-          "{new} of its {brought} candidates and {later} of its {held} sessions are not in the office: is it another "
-          "school's?")
-NAMED = "the name of its school is {other}, that of the office is {school}: is it another school's?"
-DOUBTS = [OTHERS, NAMED]
-# How many the first has, how many the second, and how many both. Candidates are alike in number, and in name or code.
-COUNTS = ("SELECT (SELECT count(*) FROM now.{0}), (SELECT count(*) FROM other.{0}), "
-          "(SELECT count(*) FROM now.{0} AS old JOIN other.{0} AS new ON {1})")
-CANDIDATES = COUNTS.format("candidate", "old.number = new.number AND (old.name = new.name OR old.code = new.code)")
-SESSIONS = COUNTS.format("session", "old.code = new.code AND old.day = new.day")
+OTHERS = "only {alike} of the {candidates} candidates of the office are in it: is it another school's?"
+# How many candidates the first has, how many the second, and how many both: alike in number, and in name or code.
+CANDIDATES = ("SELECT (SELECT count(*) FROM now.candidate), (SELECT count(*) FROM other.candidate), "
+              "(SELECT count(*) FROM now.candidate AS old JOIN other.candidate AS new "
+              "ON old.number = new.number AND (old.name = new.name OR old.code = new.code))")
 
 
 def keep_copy(office: Office, command: str) -> str:
@@ -52,12 +45,12 @@ def named(number: int, what: str) -> str:
     return f"{number:06} {datetime.datetime.now():%Y-%m-%d %H.%M.%S.%f} {what}"
 
 
-def keep_day(office: Office, day: datetime.date, most: int) -> str | None:
+def keep_day(office: Office, day: datetime.date) -> str | None:
     """Copies the office for a day that has no copy; gives its path. The last days stay, and none that is to come."""
     if os.path.lexists(beside.folder(office.path, beside.DAYS, day.isoformat())):
         return None
     copy = make(office, beside.DAYS, day.isoformat())
-    for old in sorted(folders(office, beside.DAYS, DAY), key=lambda path: (path == copy, path <= copy, path))[:-most]:
+    for old in sorted(folders(office, beside.DAYS, DAY), key=lambda path: (path == copy, path <= copy, path))[:-MOST_DAYS]:
         drop(old)
     return copy
 
@@ -215,24 +208,15 @@ def move_in(office: Office, path: str) -> None:
     beside.sync(os.path.dirname(place))
 
 
-def undoing(what: str, is_last: bool) -> str:
-    """The command that puts the copy from before another, or from before an undoing, in the place of the office."""
-    verb, _, undone = what.partition(" ")
-    if verb in REDOING:
-        return f"{REDOING[verb]} {undone}"
-    return f"undoing {what}" if is_last else f"undoing {what} and what followed"
-
-
 def put_back(office: Office, copy: str) -> str | None:
     """Puts a copy in the place of the office, with the office alone; both are on the disk at each moment. The copy of
     what was there, None where nothing was: then a backup brings its notebook. `Trouble` where it is no good office."""
     with ready(office, copy) as path:
         check(office, path)
         kept: str | None = None
-        _, what = when_and_what(copy)
+        when, what = when_and_what(copy)
         if os.path.exists(os.path.realpath(office.path)):
-            kept = keep_copy(office, f"{BACK[0]}{what}" if is_brought(copy) else
-                             undoing(what, listed(office)[:1] == [copy]))
+            kept = keep_copy(office, f"{BACK}{what if is_brought(copy) else when}")
         elif is_brought(copy):
             with contextlib.suppress(OSError):  # it has none, or one is here already
                 os.rename(os.path.join(copy, notebook.PLACE), beside.folder(office.path, notebook.PLACE))
@@ -246,33 +230,18 @@ def put_back(office: Office, copy: str) -> str | None:
 
 
 def losses(office: Office, copy: str) -> list[Said]:
-    """What is said of each thing that the office has and a copy has not; nothing where there is no office."""
+    """What is said of each thing that the office has and a copy has not, and first whether it may be another school's;
+    nothing where there is no office. A copy from before the first import has no candidate, and is this office's."""
     if not os.path.exists(office.path):
         return []
     try:
         with attached(office, copy) as both:
-            return [*of_others(office, copy, both), *appeals.lost(both)]
+            candidates, brought, alike = both.execute(CANDIDATES).fetchone()
+            lost = appeals.lost(both)
     except (OSError, sqlite3.Error):
         return [Said(UNKNOWN, {})]
-
-
-def of_others(office: Office, copy: str, both: sqlite3.Connection) -> list[Said]:
-    """Why a copy may be another school's; nothing where it is not, or nobody can say. One from before the first import
-    has no candidate, and is this office's all the same."""
-    why: list[Said] = []
-    with contextlib.suppress(sqlite3.Error):
-        (candidates, brought, alike), (sessions, held, same) = (
-            both.execute(query).fetchone() for query in (CANDIDATES, SESSIONS))
-        if 2 * alike < (candidates if is_brought(copy) else min(candidates, brought)):
-            why.append(Said(OTHERS, {
-                "gone": candidates - alike, "candidates": candidates, "over": sessions - same, "sessions": sessions,
-                "new": brought - alike, "brought": brought, "later": held - same, "held": held}))
-    with contextlib.suppress(OSError, ValueError, RecursionError, Trouble):  # none is beside it, or one is damaged
-        with open(os.path.join(copy, notebook.PLACE, "school.json"), "rb", opener=private.no_link) as file:
-            school, other = notebook.school_name(office), plain(str(json.loads(file.read())))
-        if is_brought(copy) and school and other and plain(school) != other:
-            why.append(Said(NAMED, {"other": other, "school": plain(school)}))
-    return why
+    is_other = 2 * alike < (candidates if is_brought(copy) else min(candidates, brought))
+    return [Said(OTHERS, {"alike": alike, "candidates": candidates}), *lost] if is_other else lost
 
 
 @contextlib.contextmanager

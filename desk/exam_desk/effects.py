@@ -3,7 +3,7 @@ short, in lines for a terminal."""
 import functools
 import sqlite3
 from collections import Counter
-from collections.abc import Collection, Iterable, Iterator, Mapping
+from collections.abc import Iterable, Iterator, Mapping
 from typing import NamedTuple
 
 from exam_desk import copies, facts, lists, notebook, on_paper, overlaps, telling
@@ -12,7 +12,7 @@ from exam_desk.office import Office, Trouble
 from exam_desk.overlaps import Overlap
 from exam_desk.reading import Person, Reading
 from exam_desk.second_sitting import left_behind
-from exam_desk.telling import KINDS, Touched, counted
+from exam_desk.telling import KINDS, counted
 from exam_desk.words import few, plain
 
 FIGURES = ("SELECT code, coalesce(entered, 0), coalesce(seated, 0) FROM session "
@@ -50,10 +50,9 @@ class Effects:
         self.kinds = telling.by_kind(telling.of_touched(before, after, self.touched) if has_seats(before) else [])
         self.changes = [*dict.fromkeys(each for part in self.kinds.values() for each in part)]
         self.clashes = [*new_clashes(before, after, self.touched)]
-        self.overlaps = with_people(after, overlaps.new(before, after, [*self.touched]))
+        self.overlaps = with_people(after, overlaps.new(before, after, self.touched))
         self.over = over(self)
-        self.out_of_date = {code: papers for code, people in self.touched.items()
-                            if (papers := out_of_date(before, after, code, people))}
+        self.out_of_date = {code: papers for code in self.touched if (papers := out_of_date(before, after, code))}
         self.codes = by_name(after, [key for key, column, *_ in telling.other_values(before, after, ["candidates"])
                                      if column == "code"])
 
@@ -121,13 +120,13 @@ def over(effects: Effects) -> dict[str, tuple[str, int]]:
             if after.office.is_over(day) and counts[code]}
 
 
-def out_of_date(before: Reading, after: Reading, session: str, people: Collection[str] | None) -> on_paper.Papers:
-    """The papers that are noted as printed and show those of these people, or of all, who are otherwise than before
-    and not as on paper, or what lines share and is another."""
+def out_of_date(before: Reading, after: Reading, session: str) -> on_paper.Papers:
+    """The papers that are noted as printed and show those who are otherwise than before and not as on paper, or what
+    lines share and is another."""
     paper = on_paper.noted(after.office, session)
     if not paper.lines:
         return {}
-    asked = [(reading, facts.entered(reading.rows, session, among=people)) for reading in (before, after)]
+    asked = [(reading, facts.entered(reading.rows, session)) for reading in (before, after)]
     then, now = (on_paper.lines_of(reading, session, reading.members(session, numbers)) for reading, numbers in asked)
     moves = [move._replace(printed=paper.lines.get(move.number)) for move in on_paper.moves(then, now)
              if move.now != paper.lines.get(move.number)]
@@ -136,11 +135,11 @@ def out_of_date(before: Reading, after: Reading, session: str, people: Collectio
     return on_paper.out_of_date(after.office, moves, others, paper.lines)
 
 
-def new_clashes(before: Reading, after: Reading, sessions: Touched) -> Iterator[tuple[str, Person, list[str]]]:
-    """Who has two papers at once in a session, and had not these, of those whom a change can meet there; with the
-    papers that they do not sit, by session and name."""
-    for session, people in sessions.items():
-        old, new = (telling.missing(reading, session, people) for reading in (before, after))
+def new_clashes(before: Reading, after: Reading, sessions: Iterable[str]) -> Iterator[tuple[str, Person, list[str]]]:
+    """Who has two papers at once in a session, and had not these; with the papers that they do not sit, by session and
+    name."""
+    for session in sessions:
+        old, new = (reading.clashes(session) for reading in (before, after))
         others = [number for number in new if number not in old or (
             at_once(after, session, number, new) - at_once(before, session, number, old))]
         for person in by_name(after, others):

@@ -12,10 +12,8 @@ port or a socket that cannot be had. What it does with the locks of `turns`, aga
 import asyncio
 import contextlib
 import datetime
-import errno
 import fcntl
 import json
-import math
 import os
 import pathlib
 import signal
@@ -37,10 +35,9 @@ BACKLOG = 4096  # a socket without room refuses at once; the system may allow le
 MOST_LOG = 1 << 20  # bytes
 MOST_LINE = 1 << 12  # bytes of what `serve` complains of
 MOST_FAULT = 60  # letters of a fault that others are shown
-LONGEST_PAUSE = 5  # seconds from a `serve` that failed to the next
+FAULT_PAUSE = 0.5  # seconds from a `serve` that failed to the next
 TURN_SECONDS = 3  # that commands wait at most until candidates who waited have their answers
 DAY_PAUSE = 0.5  # seconds from one look at the date to the next
-COPY_PAUSE = 300  # seconds from a copy of the day that could not be kept to the next try
 START_SECONDS, STOP_SECONDS, QUESTION_SECONDS = 60, 20, 5  # that who begins `keep`, ends it or asks it waits at most
 QUESTION = b"GET / HTTP/1.0\r\n\r\n"  # `serve` answers it by 404
 RUNS = "`keep` serves this office already; `office keep status` says where"
@@ -64,12 +61,11 @@ def say(text: object) -> None:
 class Keep:
     """Serves through a `Hold` until a signal or `office keep stop` ends it."""
 
-    def __init__(self, office: Office, place: str, days: int, lock: FileIO) -> None:
-        self.office, self.place, self.days, self.lock = office, place, days, lock
+    def __init__(self, office: Office, place: str, lock: FileIO) -> None:
+        self.office, self.place, self.lock = office, place, lock
         self.hold = hold.Hold()
         self.ending = False
         self.day = office.today()  # for which it serves
-        self.copy_again = math.inf  # when the copy of the day is to be tried again
 
     def show(self, state: str = "aside", **more: object) -> None:
         """Writes into the lock file what `keep` does."""
@@ -93,10 +89,8 @@ class Keep:
         say("ended")
 
     async def serve_again_and_again(self) -> None:
-        """Says each fault, and waits longer behind each of those that come at once."""
-        failures = 0
+        """Says each fault."""
         while not self.ending:
-            began = time.monotonic()
             try:
                 fault = await self.served()
             except Exception as wrong:  # whatever it is, candidates wait
@@ -104,24 +98,18 @@ class Keep:
             if fault:
                 say(fault)
                 self.show(fault)
-            failures = failures + 1 if fault and time.monotonic() - began < LONGEST_PAUSE else 0
-            if failures and not self.ending:
-                await asyncio.sleep(min(0.1 * 2 ** failures, LONGEST_PAUSE))
+                await asyncio.sleep(FAULT_PAUSE)
 
     async def served(self) -> str:
         """Serves until a command wants the office, the day or `keep` ends, or `serve` fails; gives the fault, or ""."""
         with (turns.lock_file(self.office, "turn.lock") as turn, turns.lock_file(self.office, "want.lock") as want,
               turns.lock_file(self.office, "office.lock") as office):
-            await self.locked(want, turn)
-            await self.locked(office, turn)
+            for lock in want, office:
+                while not self.ending and not turns.try_lock(lock):
+                    if self.hold.asked > self.hold.answered:
+                        turns.try_lock(turn)
+                    await asyncio.sleep(turns.PAUSE)
             return "" if self.ending else await self.serve_once(want, turn)
-
-    async def locked(self, file: FileIO, turn: FileIO) -> None:
-        """Waits until a lock is had or `keep` ends."""
-        while not self.ending and not turns.try_lock(file):
-            if self.hold.asked > self.hold.answered:
-                turns.try_lock(turn)
-            await asyncio.sleep(turns.PAUSE)
 
     async def serve_once(self, want: FileIO, turn: FileIO) -> str:
         """Runs one `serve`, with the office alone; gives its fault, or "". No length of a night is reckoned, so a
@@ -129,7 +117,7 @@ class Keep:
         self.hold.over.clear()  # a command wants the office only while it holds want.lock
         self.hold.fault = ""
         if (day := self.office.today()) != self.day:
-            say(f"the day is {day} now" + (f": the clock went back from {self.day}" if day < self.day else ""))
+            say(f"the day is {day} now")
             self.day = day
         self.keep_day()
         with running.begun(self.office, self.office.path, port := asking.free_port()) as process:
@@ -140,8 +128,6 @@ class Keep:
             try:
                 want.close()
                 while not self.hold.over.is_set() and self.office.today() == day:
-                    if time.monotonic() > self.copy_again:
-                        await asyncio.to_thread(self.keep_day)
                     with contextlib.suppress(TimeoutError):
                         await asyncio.wait_for(self.hold.over.wait(), DAY_PAUSE)
                     if opening.done():
@@ -170,14 +156,12 @@ class Keep:
         turn.close()
 
     def keep_day(self) -> None:
-        """Keeps a copy of the office at each new day, and the last of them; where that fails, it is tried again."""
-        self.copy_again = math.inf
+        """Keeps a copy of the office at each new day, and the last of them."""
         try:
-            if path := copies.keep_day(self.office, self.day, self.days):
+            if path := copies.keep_day(self.office, self.day):
                 say(f"copy of the day in {path}")
         except (OSError, Trouble) as fault:
             say(f"no copy of the day: {fault.strerror if isinstance(fault, OSError) and fault.strerror else fault}")
-            self.copy_again = time.monotonic() + COPY_PAUSE
 
 
 def last_complaint(process: subprocess.Popen[bytes]) -> str:
@@ -207,18 +191,8 @@ def listener(place: str) -> Iterator[socket.socket]:
                 os.chmod(place, 0o660)
             listening.listen(BACKLOG)
         except OSError as fault:
-            is_port_used = fault.errno == errno.EADDRINUSE and place.isdigit()
-            what = in_use(place) if is_port_used else asking.shown(place)
-            raise Trouble(f"{what} cannot be had: {fault.strerror or fault}") from fault
+            raise Trouble(f"{asking.shown(place)} cannot be had: {fault.strerror or fault}") from fault
         yield listening
-
-
-def in_use(port: str) -> str:
-    """A port that is in use, with who has it, as far as the system shows it, and another one that is free."""
-    by = [f"process {name.parent.name}, {name.read_text('utf-8', 'replace').strip()}"
-          for name in pathlib.Path("/proc").glob("[0-9]*/comm")
-          if asking.listens(asking.Server(int(name.parent.name), port))]
-    return f"{asking.shown(port)} ({'; '.join([*by, str(asking.free_port())])} is free)"
 
 
 def make_room(path: str) -> None:
@@ -234,15 +208,20 @@ def make_room(path: str) -> None:
     pathlib.Path(path).unlink(missing_ok=True)
 
 
-def run(office: Office, place: str, days: int) -> None:
+def place_of(given: str) -> str:
+    """A port, or the path of the socket in a folder; nothing where it is neither."""
+    if given.isascii() and given.isdigit() and 1 <= int(given) <= 65535:
+        return str(int(given))
+    return os.path.join(os.path.abspath(given), SOCKET) if os.path.isdir(given) else ""
+
+
+def run(office: Office, place: str) -> None:
     """Serves until a signal ends it. Raises `Trouble` where another `keep` serves the office."""
     signal.signal(signal.SIGUSR1, signal.SIG_IGN)  # a command that comes before the handler need not step it aside
     with turns.lock_file(office, "keep.lock") as lock:
         if not turns.try_lock(lock, lock=fcntl.lockf):
             raise Trouble(RUNS)
-        turns.note(lock, "")  # of the one before, which may have been killed
-        asyncio.run(Keep(office, place, days, lock).run())
-        turns.note(lock, "")  # what stays there was said by one that was killed
+        asyncio.run(Keep(office, place, lock).run())
 
 
 def start(office: Office, line: Sequence[str]) -> Status:
@@ -275,10 +254,7 @@ def stop(office: Office) -> None:
 
 
 def ending(office: Office) -> str:
-    """How the last `keep` ended, as far as it has left word, and what begins another."""
-    if place := turns.said_by(0, turns.text_of(office, "keep.lock"), is_gone=True).get("place"):
-        return ("it was killed, or the machine stopped; all that it answered is kept; `office keep start "
-                f"{os.path.dirname(place) or place}` begins it, and a service begins by itself")
+    """How the last `keep` ended, as far as its journal says it, or what begins another."""
     journal = beside.folder(office.path, JOURNAL)
     with contextlib.suppress(OSError, IndexError), open(journal, encoding="utf-8", errors="replace") as file:
         return f"the last line of {journal}: {plain(file.read().splitlines()[-1]).removeprefix('office: ')}"
@@ -291,19 +267,15 @@ def status(office: Office) -> Status:
     if state is None:
         raise Trouble(f"`keep` does not run; {ending(office)}")
     process, fault = state["pid"], plain(state.get("state", "aside"))
-    means = map(str.strip, refusals.explained(office, ["serve"], fault.rpartition(": ")[2]))
-    fault = "it begins, or a command has the office" if fault == "aside" else fault
-    what = "; ".join([fault, *means, "it tries again by itself"])
     if process <= 0:
         return Status(False, "`keep` runs in another container or on another machine: ask there")
-    if "place" not in state:
-        return Status(False, f"process {process} runs, but cannot write down what it does: is the disk full?")
-    if state.get("state") == "serving":
+    if fault == "serving":
         place, answered = state["place"], 0
         with contextlib.suppress(OSError):
             answered = asking.status_of(asking.answer(asking.Server(process, place), QUESTION, QUESTION_SECONDS))
         if answered == 404:
             return Status(True, f"serving {plain(asking.shown(place))}, for {state['day']}, process {process}")
-        what = (f"no answer came within {QUESTION_SECONDS} seconds; it begins anew by itself" if not answered else
-                "it has more clients than it takes at once, or no memory")
-    return Status(False, f"process {process} does not serve now: {what}")
+        fault = f"no answer within {QUESTION_SECONDS} seconds, or more clients than it takes at once"
+    means = map(str.strip, refusals.explained(office, ["serve"], fault.rpartition(": ")[2]))
+    fault = "it begins, or a command has the office" if fault == "aside" else fault
+    return Status(False, f"process {process} does not serve now: {'; '.join([fault, *means])}; it tries again by itself")

@@ -34,10 +34,7 @@ class Unfinished:
     when: str
     command: str
     copy: str  # the name of the copy from before; "" where it has none, such as `back`
-    done: str = ""  # the last step that has an end
-    begun: str = ""  # the last one that has begun
-    count: str = ""  # of the rows of a list that were over when it let others have the office, such as 57 of 250 rows
-    lets_go: bool = False  # whether others have the office, until the list goes on
+    lets_go: bool = False  # of a list: whether others have the office, until it goes on
 
 
 def shown(words: Sequence[str]) -> list[str]:
@@ -78,28 +75,16 @@ def unfinished(office: Office) -> Unfinished | None:
     of the office is under way as long as it has a lock on its copy."""
     from exam_desk import copies  # here, since the copies need the log
     found = dict[str, Unfinished]()  # by command: the last change, and lists that let go
-    last: Unfinished | None = None
     for when, _, command, status, answer in last_lines(office):
         if status == BEGINS and command.split(" ")[0] not in BESIDE_OTHERS:
             found = {title: each for title, each in found.items() if each.lets_go}
-            last = found.setdefault(command, Unfinished(when, command, answer))
-            last.lets_go = False
+            found.setdefault(command, Unfinished(when, command, answer)).lets_go = False
         elif command in found and status == STEP:
-            found[command].lets_go, found[command].count = True, answer
+            found[command].lets_go = True
         elif command in found:
             del found[command]
-        elif last and status == STEP:
-            last.begun = command
-        elif last and command == last.begun:
-            last.done = command
     return next((each for each in found.values()
                  if not each.lets_go or not turns.is_taken(office, copies.PLACE, each.copy, copies.TITLE)), None)
-
-
-def made(office: Office) -> str:
-    """When `init` made the office, as far as the last lines of the log go back; nothing where they do not say."""
-    return max((when for when, _, command, status, _ in last_lines(office) if (command, status) == ("init", "0")),
-               default="")
 
 
 def broken_off(office: Office) -> Unfinished | None:

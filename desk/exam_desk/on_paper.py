@@ -125,10 +125,8 @@ def shared(reading: Reading, session: str) -> dict[str, str]:
 def out_of_date(office: Office, moves: Iterable[Move], others: Iterable[Other], lines: Mapping[str, Line]) -> Papers:
     """The papers that show what is another, each with its halls; charts of those alone whose rows of desks are kept."""
     met = {(kind, line.hall) for move in moves for kind in move.kinds() for line in (move.printed, move.now) if line}
-    for what, *_ in others:
-        code, _, part = what.partition(OF)
-        met |= {(what if code == SCHOOL else part, line.hall) for line in lines.values()
-                if code in (SCHOOL, line.hall, line.paper)}
+    met |= {(what if what == OF_SCHOOL else what.partition(OF)[2], line.hall) for what, *_ in others
+            for line in lines.values() if what.partition(OF)[0] in (SCHOOL, line.hall, line.paper)}
     drawn, found = notebook.rows_of_halls(office), Papers()
     for paper in ALL.split():
         halls = {hall for kind, hall in met if paper in ON[kind].split() and (paper != "chart" or hall in drawn)}

@@ -3,8 +3,7 @@
 The program prints what is short, and not why a hall does not suit. So its rule stands here again, and each answer is
 compared with the printed shortage: `Reasons.faults`.
 """
-import re
-from collections import Counter, defaultdict
+from collections import defaultdict
 from collections.abc import Iterator
 from typing import NamedTuple
 
@@ -19,31 +18,20 @@ MOST_NAMED, MOST_HALLS = 3, 5  # occupants of a full hall, halls of a reason
 MOST_LINES = 60  # that go hall by hall; in place of more, equal reasons are put together
 CLOSES, TOO_EARLY = "closes ", "closes too early"
 GRANTED_HALLS = f"SELECT number, target FROM appeal WHERE session = ? AND kind = 1 AND state = {snapshot.GRANTED}"
-SHEET = re.compile(  # as much of a text as is a shortage sheet
-    r"(?:SHORTAGE session ([A-Z0-9-]+)\n(?:unseated ([0-9]{1,9})\n(?:halls ([0-9]{1,9}) desks ([0-9]{1,9})\n"
-    r"((?:hall [A-Z0-9]+ desks [0-9]{1,9}\n)*)(?:candidates ([0-9]{1,9})\n((?:[0-9]{7}\n)*))?)?)?)?")
 
 
 class Shortage(NamedTuple):
-    """What a shortage sheet says: its own sums, and what it lists."""
-    session: str
+    """What a shortage sheet of the program says."""
     unseated: int
-    hall_count: int
     desks: int
     halls: list[tuple[str, int]]  # each with its desks
-    candidate_count: int
     candidates: list[str]
 
 
 def read_sheet(text: str) -> Shortage:
-    """Raises `Trouble` where a text is no shortage sheet."""
-    found = SHEET.match(text)
-    assert found is not None  # every text begins with nothing
-    session, unseated, hall_count, desks, halls, candidates, numbers = found.groups()
-    if found.end() != len(text) or candidates is None:
-        raise Trouble(f"line {text.count(chr(10), 0, found.end()) + 1} does not belong in a shortage sheet")
-    listed = [(hall, int(seats)) for _, hall, _, seats in map(str.split, halls.splitlines())]
-    return Shortage(session, int(unseated), int(hall_count), int(desks), listed, int(candidates), numbers.split())
+    _, [_, unseated], [_, _, _, desks], *lines = (line.split() for line in text.splitlines())
+    return Shortage(int(unseated), int(desks), [(line[1], int(line[3])) for line in lines if line[0] == "hall"],
+                    [line[0] for line in lines if len(line) == 1])
 
 
 def compared(reading: Reading, session: str) -> tuple["Reasons", Shortage]:
@@ -148,27 +136,14 @@ class Reasons:
                 + ("".join(f"  {hall:8} {reason}\n" for hall, reason in halls) or "  no hall is open\n"))
 
     def faults(self, sheet: Shortage) -> Iterator[str]:
-        """A line for each thing that a printed shortage says otherwise than these reasons, or than its own sums."""
-        members = {member.number: member for member in self.members}
-        candidates, halls = set(sheet.candidates), set(sheet.halls)
+        """A line for each thing that a printed shortage says otherwise than these reasons."""
+        short, listed = self.unseated(), set(sheet.candidates)
         suiting = {(opening.hall, opening.desks) for opening in self.openings
-                   if any(not self.obstacles(members[number], opening) for number in candidates & members.keys())}
-        listed = Counter([*sheet.candidates, *(f"hall {hall}" for hall, _ in sheet.halls)])
-        yield from (f"{name} is listed {times} times" for name, times in listed.items() if times > 1)
-        yield from (f"{number} is not a member of the session" for number in sheet.candidates if number not in members)
-        yield from (f"{member.number} has no desk and is not listed"
-                    for member in self.unseated() if member.number not in candidates)
-        yield from (f"hall {hall} with {desks} desks suits one of the candidates, but is not listed with as many desks"
-                    for hall, desks in sorted(suiting - halls))
-        yield from (f"hall {hall} with {desks} desks is listed, but suits none of the candidates, or has not as many "
-                    "desks" for hall, desks in sorted(halls - suiting))
-        yield from (f"hall {hall} is listed, and {desks - len(self.taken[hall])} of its desks are free"
-                    for hall, desks in sorted(suiting & halls) if len(self.taken[hall]) < desks)
-        sums = [("halls", sheet.hall_count, len(sheet.halls)),
-                ("desks", sheet.desks, sum(desks for _, desks in sheet.halls)),
-                ("candidates", sheet.candidate_count, len(sheet.candidates)),
-                ("unseated", sheet.unseated, len(self.unseated()))]
-        yield from (f"{name}: the sheet counts {said}, and there are {there}"
-                    for name, said, there in sums if said != there)
-        if sheet.candidate_count != sheet.desks + sheet.unseated:
-            yield f"{sheet.candidate_count} candidates are not {sheet.desks} desks and {sheet.unseated} unseated"
+                   if any(not self.obstacles(member, opening) for member in self.members if member.number in listed)}
+        yield from (f"{each.number} has no desk and is not listed" for each in short if each.number not in listed)
+        for hall in sorted(suiting.symmetric_difference(sheet.halls)):
+            said = ("suits one of the candidates, but is not listed" if hall in suiting else
+                    "is listed, but suits none of the candidates")
+            yield f"hall {hall[0]} with {hall[1]} desks {said}"
+        if sheet.unseated != len(short):
+            yield f"unseated: the sheet counts {sheet.unseated}, and there are {len(short)}"

@@ -50,12 +50,9 @@ OTHER = {
 }
 OF_A_FILE = [1, 2, 3, 4, 5, 6, 7, 20]  # refusals that rows of an import file can bring
 IDLE = ["entries", "arrangements"]  # their rows do nothing where the entry is withdrawn, or a grant is in force
-NO_CODE = ("`office take FILE --codes` fills in the codes that the office has, and new ones; for another name alone "
-           "take `office name NUMBER NAME`")
 MOST_LINES = 5  # on one column of an import file
 MOST_SHOWN = 200  # letters of the words of a process
 MAYBE_DONE = (22, 23)  # after these a command is there whole or not at all
-DONE_ALREADY = {"withdraw": 9, "reinstate": 10}  # refusals by command
 WHOLE_OR_NOT = "a command is there whole or not at all: look, or give it again"
 
 
@@ -99,8 +96,7 @@ def mistakes_of(office: Office, words: Sequence[str], data: bytes | None, is_don
     with contextlib.suppress(Trouble):
         wrong, notes = mistakes.looked_through(kind, data, checking.office_knows(office), MOST_LINES)
         name = "" if path == kind else os.path.basename(path)
-        lines = [*checking.lines_on(name, *((notes, "NOTE: ") if is_done else (wrong, "")))]
-        return [*lines, NO_CODE] if mistakes.NO_CODE in wrong.counts else lines
+        return [*checking.lines_on(name, *((notes, "NOTE: ") if is_done else (wrong, "")))]
     return []
 
 

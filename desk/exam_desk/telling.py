@@ -1,11 +1,11 @@
 """Who must be told: what members of a session sit, when and where, at two moments of an office.
 
-Somebody sits otherwise only where a row of theirs, of the session or of one of its papers is another, or where another
-row of somebody in their hall is: desks are numbered hall by hall. So the program need not be asked of the others.
+Somebody sits otherwise only in a session that a row which is another can change. So the program need not be asked of the
+others.
 """
 import contextlib
+import itertools
 import sqlite3
-from collections import defaultdict
 from collections.abc import Collection, Iterable, Iterator, Sequence
 from typing import NamedTuple
 
@@ -47,18 +47,9 @@ SESSIONS = {  # by table: which sessions a row that is another can change, as a 
     "opening": "SELECT session FROM different",
     "entry": "SELECT session FROM {moment}.paper WHERE code IN (SELECT paper FROM different)",
     "candidate": OF_NUMBERS, "arrangement": OF_NUMBERS, "appeal": OF_NUMBERS, "standing": OF_NUMBERS,
-    "seat": f"SELECT session FROM different WHERE {TO_COME}",
 }
-OF_ALL = ["session", "paper"]  # a row of such a table can meet all members of its sessions
-OF_ONE = ["seat", "entry", "candidate", "arrangement", "appeal", "standing"]  # a row belongs to one candidate
-NEIGHBOURS = (  # whoever sits in a hall with one of the numbers, before or after
-    "WITH halls AS (SELECT session, hall FROM before.seat WHERE number IN numbers "
-    "UNION SELECT session, hall FROM after.seat WHERE number IN numbers) "
-    "SELECT session, printf('%07d', number) FROM before.seat JOIN halls USING (session, hall) "
-    "UNION SELECT session, printf('%07d', number) FROM after.seat JOIN halls USING (session, hall)")
 MOMENTS = ("before", "after")
 CHANGED = ["sessions", "papers", "halls", "openings", "arrangements"]  # kinds of rows of which other values are said
-Touched = dict[str, set[str] | None]  # by session the numbers; None for all of its members
 Titles = tuple[dict[str, str], dict[str, str]]  # of papers and of halls, by code
 
 
@@ -136,41 +127,25 @@ def columns(sitting: Sitting | None) -> list[str]:
     return [str(getattr(sitting, name, None) or "") for name in COLUMNS]
 
 
-def touched(before: Reading, after: Reading, since: str | None = None) -> Touched:
-    """The sessions in order, each with those whom the change can meet there. Of sessions before a day, which is today
-    unless another is given, those that a row names: another arrangement or name comes too late for them."""
-    people: dict[str, set[str]] = defaultdict(set)
+def touched(before: Reading, after: Reading, since: str | None = None) -> list[str]:
+    """The sessions in order in which the change can meet somebody. Of those before a day, which is today unless another
+    is given, the ones that a row names: another arrangement or name comes too late for them."""
+    day, found = after.office.today().isoformat() if since is None else since, set[str]()
     with contextlib.closing(sqlite3.connect(":memory:")) as both:
         both.execute("PRAGMA temp_store = MEMORY")  # reasons of appeals are in no file of others
-        for moment, reading in zip(MOMENTS, (before, after)):
-            both.execute(f"ATTACH ? AS {moment}", [reading.copy])
-        both.execute("CREATE TEMP TABLE numbers (number PRIMARY KEY)")
-        day = after.office.today().isoformat() if since is None else since
-        found = {table: sessions_of(both, table, day) for table in SESSIONS}
-        numbers = {number for number, in both.execute("SELECT printf('%07d', number) FROM numbers")}
-        for session, number in both.execute(NEIGHBOURS):
-            people[session].add(number)
-    sessions, whole = set().union(*found.values()), set().union(*(found[table] for table in OF_ALL))
-    return {code: None if code in whole else numbers | people[code]
-            for code in all_sessions(before, after) if code in sessions}
+        both.execute("ATTACH ? AS before", [before.copy])
+        both.execute("ATTACH ? AS after", [after.copy])
+        for table, (moment, other) in itertools.product(SESSIONS, (MOMENTS, MOMENTS[::-1])):
+            both.execute("DROP TABLE IF EXISTS temp.different")
+            both.execute(f"CREATE TEMP TABLE different AS SELECT * FROM {moment}.{table} EXCEPT "
+                         f"SELECT * FROM {other}.{table}")
+            found.update(code for code, in both.execute(SESSIONS[table].format(moment=moment), {"since": day}))
+    return [code for code in all_sessions(before, after) if code in found]
 
 
 def all_sessions(before: Reading, after: Reading) -> list[str]:
     """The codes of the sessions after, by day and start; then of those that are gone."""
     return list(dict.fromkeys(head["code"] for reading in (after, before) for head in facts.sessions(reading.rows)))
-
-
-def sessions_of(both: sqlite3.Connection, table: str, since: str) -> set[str]:
-    """The sessions that rows of a table touch; the numbers in such rows are kept."""
-    found: set[str] = set()
-    for moment, other in (MOMENTS, MOMENTS[::-1]):
-        both.execute("DROP TABLE IF EXISTS temp.different")
-        both.execute(f"CREATE TEMP TABLE different AS SELECT * FROM {moment}.{table} EXCEPT "
-                     f"SELECT * FROM {other}.{table}")
-        found.update(code for code, in both.execute(SESSIONS[table].format(moment=moment), {"since": since}))
-        if table in OF_ONE:
-            both.execute("INSERT OR IGNORE INTO numbers SELECT number FROM different")
-    return found
 
 
 def differences(before: Reading, after: Reading, asked: Collection[str] = ()) -> list[Change]:
@@ -181,17 +156,20 @@ def differences(before: Reading, after: Reading, asked: Collection[str] = ()) ->
         if code not in sessions:
             raise Trouble(f"there is no session {code}; the office has {few(sessions, 20)}")
     found = touched(before, after, since="")
-    return of_touched(before, after, {code: found[code] for code in found if not asked or code in asked}, True)
+    changes = of_touched(before, after, [code for code in found if not asked or code in asked], True)
+    if not changes:  # a row that meets nobody may be one that no office has: asked of somebody, the program says so
+        after.ask(map(after.person, [*facts.candidate_names(after.rows)][:1]))
+    return changes
 
 
-def of_touched(before: Reading, after: Reading, sessions: Touched, with_clashes: bool = False) -> list[Change]:
-    """The changes of those who are touched; whoever only misses other papers is among those with clashes."""
+def of_touched(before: Reading, after: Reading, sessions: Sequence[str], with_clashes: bool = False) -> list[Change]:
+    """The changes in these sessions; whoever only misses other papers is among those with clashes."""
     for reading in (before, after):  # both open their copies at once
         if sessions:
             reading.prepare()
     old, new = (sat(reading, sessions) for reading in (before, after))
-    was, missed = ({(session, number): papers for session, people in sessions.items() if with_clashes
-                    for number, papers in missing(reading, session, people).items()} for reading in (before, after))
+    was, missed = ({(session, number): papers for session in sessions if with_clashes
+                    for number, papers in reading.clashes(session).items()} for reading in (before, after))
     nobody: tuple[str, None] = ("", None)
     found = []
     for session, number in {**old, **new}:
@@ -200,9 +178,8 @@ def of_touched(before: Reading, after: Reading, sessions: Touched, with_clashes:
                         was.get((session, number), ()), missed.get((session, number), ()))
         if columns(then) != columns(now) or old_name != name or change.also():
             found.append(change)
-    places = {session: place for place, session in enumerate(sessions)}
     return sorted(with_moves(found),
-                  key=lambda change: (places[change.session], name_order(change.name, change.number)))
+                  key=lambda change: (sessions.index(change.session), name_order(change.name, change.number)))
 
 
 def with_moves(changes: Iterable[Change]) -> list[Change]:
@@ -218,17 +195,12 @@ def with_moves(changes: Iterable[Change]) -> list[Change]:
     return [*found.values()]
 
 
-def missing(reading: Reading, session: str, people: Collection[str] | None) -> dict[str, list[str]]:
-    """The papers of a session that those of these people, or of all, are entered for and do not sit, by number."""
-    return reading.clashes(session, facts.entered(reading.rows, session, 2, people))
-
-
-def sat(reading: Reading, sessions: Touched) -> dict[tuple[str, str], tuple[str, Sitting]]:
-    """The names of those who are touched, and what they sit, by session and number; all are asked of at once."""
-    numbers = {session: facts.entered(reading.rows, session, among=people) for session, people in sessions.items()}
-    reading.ask(map(reading.person, sorted(set().union(*numbers.values()))))
-    return {(session, number): (name, sitting) for session, asked in numbers.items()
-            for number, name, sitting in reading.members(session, asked)}
+def sat(reading: Reading, sessions: Sequence[str]) -> dict[tuple[str, str], tuple[str, Sitting]]:
+    """The names of the members of sessions, and what they sit, by session and number; all are asked of at once."""
+    entered = {session: facts.entered(reading.rows, session) for session in sessions}
+    reading.ask(map(reading.person, sorted(set().union(*entered.values()))))
+    return {(session, number): (name, sitting) for session, numbers in entered.items()
+            for number, name, sitting in reading.members(session, numbers)}
 
 
 def by_kind(changes: Iterable[Change]) -> dict[str, list[Change]]:
@@ -245,12 +217,12 @@ def text(changes: Collection[Change]) -> str:
     telling = [change.number for change in changes if change.is_to_tell()]
     told = set(telling)
     others = [change.number for change in changes if change.number not in told]
-    lines, last = [], f"{counted(TO_TELL, telling)}, {counted(DESK_ALONE, others)}" if changes else "nothing changed"
+    lines, last = [], ", ".join(counted(words, who) for words, who in ((TO_TELL, telling), (DESK_ALONE, others)) if who)
     for kind, part in by_kind(changes).items():
         mark = "!" if part[0].is_to_tell() else " "
         lines += [f"{counted(KINDS[kind], [change.number for change in part])}:",
                   *(f"{mark} {change.session} {change.person()}: {change.what()}" for change in part)]
-    return "".join(f"{line}\n" for line in [*lines, last])
+    return "".join(f"{line}\n" for line in [*lines, last or "nothing changed"])
 
 
 def counted(words: tuple[str, str], who: Collection[object]) -> str:

@@ -124,11 +124,11 @@ def keep_state(office: Office) -> Said | None:
     return None
 
 
-def said_by(process: int, text: bytes | str, is_gone: bool = False) -> Said:
-    """What `keep` has said, where the text is whole and its own, or of one that is gone; else its process alone."""
+def said_by(process: int, text: bytes) -> Said:
+    """What `keep` has said, where the text is whole and its own; else its process alone."""
     with contextlib.suppress(ValueError, RecursionError):
         said = json.loads(text)
-        if isinstance(said, dict) and (is_gone or said.get("pid") == process):
+        if isinstance(said, dict) and said.get("pid") == process:
             return cast(Said, said)
     return {"pid": process}
 

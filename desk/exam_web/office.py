@@ -5,11 +5,10 @@ import pathlib
 import re
 import sys
 import weakref
-from collections.abc import Mapping
-from typing import IO
 
 from flask import Blueprint, abort, g, render_template, request
 from markupsafe import Markup
+from werkzeug.datastructures import FileStorage
 from werkzeug.wrappers import Response
 
 from exam_desk import backups, changing, copies, facts, keeping, logbook, notebook, turns
@@ -30,10 +29,9 @@ LOWEST_PORT, HIGHEST_PORT = 1024, 65535
 class Backup:
     """A backup that was brought, as a copy. That goes when nobody holds the backup any more."""
 
-    def __init__(self, given: Mapping[str, IO[bytes]]) -> None:
-        stack = contextlib.ExitStack()
-        self.path, self.is_alone = stack.enter_context(backups.brought(desk().office, given))
-        self.when = backups.written(given)
+    def __init__(self, given: FileStorage) -> None:
+        stack, name = contextlib.ExitStack(), pathlib.PureWindowsPath(given.filename or "").name
+        self.path, self.when = stack.enter_context(backups.brought(desk().office, name, given.stream))
         weakref.finalize(self, stack.close)
 
 
@@ -72,11 +70,10 @@ def copy(key: str) -> str:
     with contextlib.suppress(Trouble):  # the office is not there, or cannot be read
         now = view()
     return render_template("copy.html", key=key, when=when, what=what, is_brought=copies.is_brought(path), since=since,
-                           e=compared(now, path) if now else None, most=MOST_ROWS, doubts=copies.DOUBTS, lost=lost,
+                           e=compared(now, path) if now else None, most=MOST_ROWS, doubt=copies.OTHERS, lost=lost,
                            held=[] if now else [*sums(view_of(path)).values()],
                            names=facts.candidate_names(now.reading.rows) if now else {},
-                           log=[line for line in log_since(since) if since and
-                                line[3] not in (logbook.BEGINS, logbook.STEP)])
+                           log=[line for line in log_since(since) if line[3] not in (logbook.BEGINS, logbook.STEP)])
 
 
 def view_of(path: str) -> View:
@@ -117,16 +114,15 @@ def back(key: str) -> Response:
             text("The office is as it was on {when}.", when=when)]
     return lead("office.page", Markup(" ").join(
         [*done, *([text("The office from before is the newest copy.")] if kept else []),
-         *(Markup("<br>{}").format(said(line)) for line in lost if line.text not in copies.DOUBTS)]))
+         *(Markup("<br>{}").format(said(line)) for line in lost if line.text != copies.OTHERS)]))
 
 
 @pages.post("/office/bring")
 def bring() -> Response:
     """Takes a backup in, for a look; the office stays as it is."""
-    given = {pathlib.PureWindowsPath(each.filename or "").name: each.stream for each in request.files.getlist("backup")}
     page = "office.page" if desk().is_there() else "season.page"
     with at_field((page, {}), "backup"), desk().rehearsing:
-        g.visit.backup = Backup(given)
+        g.visit.backup = Backup(request.files["backup"])
     return lead("office.copy", key=copy_key(g.visit.backup.path))
 
 

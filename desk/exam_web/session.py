@@ -147,13 +147,13 @@ def absent(code: str) -> Response:
     return lead("session.page", told, code=code)
 
 
-@pages.get("/sessions/<code>/<any(attendance, seats):what>.csv")
-def csv(code: str, what: str) -> Response:
+@pages.get("/sessions/<code>/<any(attendance, seats):table>.csv")
+def csv(code: str, table: str) -> Response:
     """The list for the exam board, or who sits where."""
     reading, sessions = view().reading, [Session(code).code]
-    content = (notebook.attendance(reading, sessions) if what == "attendance"
+    content = (notebook.attendance(reading, sessions) if table == "attendance"
                else slips.csv_text(reading, slips.Choice(sessions=sessions, desks=True)))
-    return attached(content.encode("utf-8", "surrogateescape"), f"{code}-{what}.csv")
+    return attached(content.encode("utf-8", "surrogateescape"), f"{code}-{table}.csv")
 
 
 @pages.get("/sessions/<code>/print/<sheet>")

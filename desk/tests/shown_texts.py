@@ -29,11 +29,11 @@ CHAPTERS = set(re.findall("^## (.+)", (DESK.parent / "docs/HANDBOOK.md").read_te
 RAISED = [call.args[0].value for path in (DESK / "exam_desk").glob("*.py")  # sentences without a value
           for call in ast.walk(ast.parse(path.read_text("utf-8"))) if isinstance(call, ast.Call)
           and ast.unparse(call.func) == "Trouble" and isinstance(call.args[0], ast.Constant)]
-OTHERWISE = wording.LANGUAGES["en"].keys() & {*RAISED, keeping.RUNS, refusals.NO_CODE}  # said as no command says them
+OTHERWISE = wording.LANGUAGES["en"].keys() & {*RAISED, keeping.RUNS}  # said as no command says them
 SAID = [*refusals.SENTENCES.values(), *refusals.OTHER.values(), *OTHERWISE]
 CURES = [cure.removesuffix(typed.OF_A_SHEET) for cure in mistakes.CURES.values()]
 OPENED = [cells.PASSWORD, opening.NO_UTF_8, opening.NO_WORKBOOK, opening.OLD_FORM,  # why a file is not read
-          backups.NO_OFFICE, backups.SEVERAL, backups.BROKEN, backups.TOO_LARGE]
+          backups.NO_OFFICE, backups.SEVERAL, backups.ALONE, backups.BROKEN, backups.TOO_LARGE]
 OF_COMMANDS = re.compile("header|column|first line|UTF-16|split it|^these are|file is empty|access code;|SELECT|NOTE|"
                          "office (take|withdraw)|--codes|looked for|file fault|refused|chmod")  # no page shows these
 
@@ -54,7 +54,7 @@ def sentences(module):
                                   for value in part.values)
 
 
-OF_KEEP = re.compile("^serving {|^process {|^no answer came|^it has more|it tries again|^`keep` (runs|does)|^the last line|"
+OF_KEEP = re.compile("^serving {|^process {|^no answer within|^`keep` (runs|does)|^the last line|"
                      r"cannot be had: \{1")
 FORMED = [*mistakes.CURES.values(), mistakes.EMPTY_ROW, files.NO_UTF_8, *(
     each for module in (mistakes, refusals) for each in sentences(module)
@@ -191,7 +191,7 @@ def main():
     found.update(re.findall(r'\btext\("((?:[^"\\]|\\.)*)"', (DESK / "exam_web/wording.py").read_text("utf-8")))
     for table in TABLES.values():
         found.update(table)
-    found.update(SAID, OPENED, FORMED, OWN, second_sitting.TEXTS, [copies.OTHERS, copies.NAMED, copies.UNKNOWN],
+    found.update(SAID, OPENED, FORMED, OWN, second_sitting.TEXTS, [copies.OTHERS, copies.UNKNOWN],
                  [appeals.LOST, appeals.OTHERWISE, appeals.STANDING, appeals.GONE])
     print(json.dumps({"found": sorted(found), "lost": lost}))
 

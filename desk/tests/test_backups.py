@@ -41,16 +41,19 @@ class Backups(sample.SampleSchool):
         return pathlib.Path(self.folder, name).read_bytes()
 
     @contextlib.contextmanager
-    def brought(self, **given):
+    def brought(self, content):
         """The files of the copy of a backup, by their paths in it; and the copy."""
-        streams = {name.replace("_", "."): io.BytesIO(text) for name, text in given.items()}
-        with backups.brought(self.value, streams) as (copy, _):
+        with backups.brought(self.value, "b.zip", io.BytesIO(content)) as (copy, _):
             yield copy, {os.path.relpath(os.path.join(place, name), copy): os.path.join(place, name)
                          for place, _, names in os.walk(copy) for name in names}
 
-    def refuses(self, said, **given):
+    def zip(self, **more):
+        """A zip of the office, with more parts or others."""
+        return zipped({"office.db": self.first, "office.db-wal": self.second, **more})
+
+    def refuses(self, said, content):
         with self.assertRaisesRegex(Trouble, said):
-            with self.brought(**given):
+            with self.brought(content):
                 pass
         self.assertEqual(os.listdir(self.tmp), [], "something is left")
 
@@ -62,7 +65,7 @@ class TestTaken(Backups):
             parts = {f"{place}exams.db": self.first, f"{place}exams.db-wal": self.second,
                      f"{place}desk-exams.db{slash}notebook{slash}school.json": '"Hill"',
                      f"{place}desk-exams.db{slash}notebook{slash}printed.MON-AM.json": "{}", f"{place}README": "x"}
-            with self.brought(b_zip=zipped(parts)) as (copy, found):
+            with self.brought(zipped(parts)) as (copy, found):
                 self.assertEqual({*found} - {"office.db-wal"}, {"office.db", "notebook/school.json",
                                                                 "notebook/printed.MON-AM.json"})
                 self.assertEqual(snapshot.name_now(self.value, found["office.db"]), snapshot.name_now(self.value))
@@ -82,7 +85,7 @@ class TestTaken(Backups):
         self.assertEqual(self.bytes_of("b.zip"), content)
         with zipfile.ZipFile(io.BytesIO(content)) as archive:
             self.assertEqual(archive.read(f"office-{sample.TODAY}/desk-office.db/log"), log)
-        with self.brought(b_zip=content) as (_, found):
+        with self.brought(content) as (_, found):
             self.assertEqual({*found}, {"office.db", "office.db-wal", "notebook/school.json"})
             self.assertEqual(snapshot.name_now(self.value, found["office.db"]), before)
 
@@ -106,16 +109,16 @@ class TestTaken(Backups):
             file.execute(APPEAL)
             file.commit()
             first, second = self.bytes_of("office.db"), self.bytes_of("office.db-wal")
-        for given, count in ({"office_db": first, "office_db-wal": second}, 1), ({"office_db": first}, 0):
-            with self.brought(**given) as (copy, found), contextlib.closing(
-                    snapshot.rows(self.value, found["office.db"])) as rows:
-                self.assertEqual([*map(tuple, rows.execute("SELECT count(*) FROM appeal"))], [(count,)])
+        with self.brought(zipped({"office.db": first, "office.db-wal": second})) as (copy, found), contextlib.closing(
+                snapshot.rows(self.value, found["office.db"])) as rows:
+            self.assertEqual([*map(tuple, rows.execute("SELECT count(*) FROM appeal"))], [(1,)])
+        self.refuses(backups.ALONE, zipped({"office.db": first}))
 
     def test_an_office_of_an_earlier_version_is_carried_over(self):
         with contextlib.closing(sqlite3.connect(self.path)) as file:
             file.execute("UPDATE office SET version = 2")
             file.commit()
-        with self.brought(office_db=self.bytes_of("office.db")) as (_, found):
+        with self.brought(zipped({"office.db": self.bytes_of("office.db"), "office.db-wal": b""})) as (_, found):
             self.assertNotEqual(snapshot.name_now(self.value, found["office.db"]), "")  # it can be read
         self.assertTrue(self.refused("check").startswith("refused 27"))
 
@@ -127,26 +130,26 @@ class TestRefused(Backups):
         with contextlib.closing(sqlite3.connect(self.write("bad.db", self.first))) as file:
             file.execute("DELETE FROM seat WHERE number = 1017")
             file.commit()
-        whole = zipped({"office.db": self.first})
+        whole = self.zip()
         locked = bytearray(whole)
         locked[locked.find(b"PK\1\2") + 8] |= 1  # says that the part is encrypted
         lying = bytearray(whole)
         length = lying.find(b"PK\1\2") + 24
         lying[length:length + 4] = (100).to_bytes(4, "little")  # says that the part is small
-        for said, content in ((backups.NO_OFFICE, b""), (backups.NO_OFFICE, b"%PDF-1.4"),
+        for said, content in ((backups.BROKEN, b""), (backups.BROKEN, b"%PDF-1.4"), (backups.BROKEN, self.first),
                               (backups.NO_OFFICE, zipped({"a.csv": b"number,paper\n"})),
-                              (backups.SEVERAL, zipped({"a.db": self.first, "b.db": self.first})),
+                              (backups.SEVERAL, self.zip(**{"b.db": self.first})),
                               (backups.BROKEN, whole[:-40]), ("it has a password", bytes(locked)),
                               (backups.BROKEN, bytes(lying)),
                               (backups.BROKEN, whole[:len(whole) // 2] + b"x" * 9 + whole[len(whole) // 2 + 9:]),
-                              (r"this copy is no good office \(bad office", self.bytes_of("other.db")),
-                              (r"this copy is no good office \(bad seat", self.bytes_of("bad.db"))):
-            self.refuses(said, b_zip=content)
+                              (r"this copy is no good office \(bad office", self.zip(**{"office.db": self.bytes_of("other.db")})),
+                              (r"this copy is no good office \(bad seat", zipped({
+                                  "office.db": self.bytes_of("bad.db"), "office.db-wal": b""}))):
+            self.refuses(said, content)
 
     def test_a_notebook_that_the_desk_could_not_read(self):
         for text in b"{", b"[" * 100_000, b"\xff", b'"' + b"x" * backups.MOST_NOTES + b'"':
-            self.refuses(f"{backups.BROKEN}|{backups.TOO_LARGE}",
-                         b_zip=zipped({"office.db": self.first, "notebook/notes.json": text}))
+            self.refuses(f"{backups.BROKEN}|{backups.TOO_LARGE}", self.zip(**{"notebook/notes.json": text}))
 
     def test_more_comes_out_of_it_than_an_office_can_have(self):
         more = len(self.first) + 1
@@ -154,12 +157,12 @@ class TestRefused(Backups):
                       {"o.db": self.first, "notebook/notes.json": b'"' + b"x" * more + b'"'},
                       {"o.db": self.first} | dict.fromkeys(map(str, range(backups.MOST_PARTS)), b"")):
             with mock.patch("exam_desk.copies.MOST_BYTES", 2 * len(self.first)):
-                self.refuses(backups.TOO_LARGE, b_zip=zipped(parts))
+                self.refuses(backups.TOO_LARGE, zipped(parts))
 
     def test_a_disk_without_room_is_no_broken_backup(self):
         for number, raised in ((errno.ENOSPC, OSError), (errno.EIO, Trouble)):
             with mock.patch("shutil.copyfileobj", side_effect=OSError(number, "said")), self.assertRaises(raised) as fault:
-                with backups.brought(self.value, {"office.db": io.BytesIO(self.first)}):
+                with self.brought(self.zip()):
                     self.fail("it is there")
             self.assertEqual(str(fault.exception), "[Errno 28] said" if raised is OSError else backups.BROKEN)
 
@@ -167,32 +170,31 @@ class TestRefused(Backups):
         """Paths that lead out of it, links, names of a notebook's form and none."""
         link = zipfile.ZipInfo("notebook/rows.json")
         link.external_attr = (stat.S_IFLNK | 0o777) << 16
-        out = io.BytesIO(zipped({"../../office.db": self.first, "/etc/notebook/../../school.json": '"x"',
+        out = io.BytesIO(zipped({"../../office.db": self.first, "../../office.db-wal": self.second, "/etc/notebook/../../school.json": '"x"',
                                  "notebook/../notes.json": "{}", "notebook/printed.../../x.json": "{}",
                                  "notebook/absent.MON AM.json": "{}", "notebook/other.json": "{}",
                                  "notebook/absent.\nX.json": "{}"}))
         with zipfile.ZipFile(out, "a") as archive:
             archive.writestr(link, '"/etc/passwd"')
         before = sorted(os.listdir(self.folder))
-        with self.brought(b_zip=out.getvalue()) as (_, found):
+        with self.brought(out.getvalue()) as (_, found):
             self.assertEqual({*found} - {"office.db-wal"}, {"office.db", "notebook/rows.json"})
             self.assertFalse(os.path.islink(found["notebook/rows.json"]))
         self.assertEqual(sorted(os.listdir(self.folder)), before)
 
 
 class TestPutBack(Backups):
-    def put_back(self, state, **given):
-        with self.brought(**given) as (copy, _):
+    def put_back(self, state, content):
+        with self.brought(content) as (copy, _):
             return changing.go_back(self.value, ["back"], copy, lambda lost: True, state)
 
     def test_into_an_empty_folder_with_its_notebook(self):
-        parts = {"office.db": self.first, "office.db-wal": self.second, "notebook/school.json": '"Hill"'}
         before = snapshot.name_now(self.value)
         for ending in ("", "-wal"):
             os.remove(self.path + ending)
         with open(self.path + "-wal", "wb") as old:  # of another office
             old.write(self.second or b"x" * 4000)
-        self.assertEqual(self.put_back("", b_zip=zipped(parts)), (True, [], None))
+        self.assertEqual(self.put_back("", self.zip(**{"notebook/school.json": '"Hill"'})), (True, [], None))
         self.assertEqual((snapshot.name_now(self.value), self.office("check")), (before, "good\n"))
         self.assertEqual((self.office("school"), notebook.school_name(self.value)), ("Hill\n", "Hill"))
         self.assertEqual(stat.S_IMODE(os.stat(self.path).st_mode), 0o600)
@@ -200,12 +202,12 @@ class TestPutBack(Backups):
     def test_a_notebook_that_is_there_stays(self):
         self.office("school", "Dale")
         os.remove(self.path)
-        self.put_back("", b_zip=zipped({"office.db": self.first, "notebook/school.json": '"Hill"'}))
+        self.put_back("", self.zip(**{"notebook/school.json": '"Hill"'}))
         self.assertEqual(notebook.school_name(self.value), "Dale")
 
     def test_an_office_that_came_meanwhile_stays(self):
         os.remove(self.path)
-        with self.brought(office_db=self.first) as (copy, _):
+        with self.brought(self.zip()) as (copy, _):
             self.office("init")
             with self.assertRaises(Stale):
                 changing.go_back(self.value, ["back"], copy, lambda lost: True, "")
@@ -214,8 +216,7 @@ class TestPutBack(Backups):
     def test_the_log_and_the_copy_say_what_it_was(self):
         before = snapshot.name_now(self.value)
         self.office("withdraw", "0001051", "PH-1")
-        parts = {"office.db": self.first, "office.db-wal": self.second}
-        done = self.put_back(snapshot.name_now(self.value), b_zip=zipped(parts))
+        done = self.put_back(snapshot.name_now(self.value), self.zip())
         self.assertEqual(snapshot.name_now(self.value), before)
         self.assertEqual(copies.when_and_what(done.copy)[1], "back to b.zip")
         self.assertRegex(pathlib.Path(self.desk, "log").read_text("utf-8"),

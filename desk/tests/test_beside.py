@@ -169,8 +169,9 @@ class Copies(Beside):
         others = ["2027-04-01.new", "letters", "2027-04-01 by hand"]
         for name in (*others, "2027-04-01", "2027-04-02", "2099-01-01"):
             os.makedirs(os.path.join(self.desk, "days", name), 0o700)
-        self.assertTrue(copies.keep_day(self.value, datetime.date(2027, 5, 1), 2))
-        self.assertIsNone(copies.keep_day(self.value, datetime.date(2027, 5, 1), 2))
+        with mock.patch("exam_desk.copies.MOST_DAYS", 2):
+            self.assertTrue(copies.keep_day(self.value, datetime.date(2027, 5, 1)))
+            self.assertIsNone(copies.keep_day(self.value, datetime.date(2027, 5, 1)))
         self.assertEqual(sorted(os.listdir(os.path.join(self.desk, "days"))),
                          sorted([*others, "2027-04-02", "2027-05-01"]))  # none to come, which a wrong clock made
 
@@ -367,34 +368,17 @@ class Back(Beside):
         self.assertEqual(self.log()[-1][1:], ["0", "; ".join([self.log()[-1][2].split("; ")[0],
                                                               *(line.removeprefix("taken away: ") for line in lines)])])
 
-    def test_it_asks_again_where_more_came(self):
+    def test_nothing_is_done_where_more_came_or_somebody_changed_the_office(self):
         self.office("withdraw", "0001017", "MA-1")
-        process = self.ask()
-        self.assertNotIn("taken away", self.question(process))
-        self.change(APPEAL, "HA1")
-        process.stdin.write("y\n")
-        process.stdin.flush()
-        first = "taken away: appeal 0001051 HA1 for MON-AM: open -> gone\n"
-        self.assertIn(f"{first}the office has changed since the question, and nothing", self.question(process))
-        self.change(APPEAL, "HA2")
-        process.stdin.write("y\n")
-        process.stdin.flush()
-        self.assertIn(f"{first}{first.replace('HA1', 'HA2')}the office has changed since the question, and nothing", self.question(process))
-        self.assertEqual(process.communicate("\n")[1], "office: nothing is changed\n")
-        self.assertEqual(len(self.log()), 2)
-        self.assertIn("the office is as it was", self.office("back", "1", stdin="y\n"))
-
-    def test_it_asks_again_where_somebody_changed_the_office(self):
-        self.office("withdraw", "0001017", "MA-1")
-        process = self.ask()
-        self.question(process)
-        self.office("withdraw", "0001000", "MA-1")
-        process.stdin.write("y\n")
-        process.stdin.flush()
-        self.assertIn("changed since the question by `withdraw 0001000 MA-1`, and nothing is done yet: put back the office "
-                      "of ", self.question(process))
-        self.assertEqual(process.communicate("\n")[1], "office: nothing is changed\n")
-        self.assertEqual(len(self.log()), 4)
+        for change, said in ((lambda: self.change(APPEAL, "HA1"), "other appeals or decisions would be taken away by now"),
+                             (lambda: self.office("withdraw", "0001000", "MA-1"), "the office has changed since you looked")):
+            process = self.ask()
+            self.question(process)
+            change()
+            before, log = snapshot.name_now(self.value), len(self.log())
+            self.assertIn(said, process.communicate("y\n")[1])
+            self.assertEqual((process.returncode, snapshot.name_now(self.value), len(self.log())), (1, before, log))
+        self.assertIn("the office is as it was", self.office("back", "2", stdin="y\n"))
 
     def test_an_office_that_cannot_be_read(self):
         self.office("withdraw", "0001017", "MA-1")

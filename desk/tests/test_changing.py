@@ -364,8 +364,7 @@ class Killed(Changing):
             self.assertEqual(done.returncode, -signal.SIGKILL)
             said = self.run_office("reinstate", "0001000", "MA-1").stderr
             if kind in ("sessions", "openings"):  # the files before halls change nothing
-                behind = {"sessions": "the office is as before: give it again", "openings": "behind `import halls halls.csv for "}[kind]
-                self.assertIn(behind, said)
+                self.assertIn({"sessions": "the office is as before: give it again", "openings": "puts it back"}[kind], said)
             self.assertRegex(said, r"^office: `take facts` of \S+ \S+ was broken off")
             if self.state() != before:
                 self.assertRegex(said, "`office back` lists the copy of .*, before take facts, and puts it back\n")
@@ -385,7 +384,7 @@ class Killed(Changing):
         self.assertEqual({done.returncode for done in said.values()}, {0})
         self.assertEqual((self.log(), len(self.kept())), (log, 2))
         after = self.run_office("reinstate", "0001000", "MA-2").stderr.split("\n")[0]
-        self.assertRegex(after, "^office: `take facts` of .* was broken off behind `import halls .*`: `office back` lists "
+        self.assertRegex(after, "^office: `take facts` of .* was broken off: `office back` lists "
                                 "the copy of .*, before take facts, and puts it back$")
         self.assertEqual({done.stderr for done in said.values()}, {f"{after}\n"})
         for words in looks:
@@ -448,7 +447,7 @@ class Killed(Changing):
         self.assertEqual(self.run_office("withdraw", "0001000", "MA-1", EXAMOFFICE=program).returncode, -signal.SIGKILL)
         done = self.run_office("reinstate", "0001000", "MA-1")
         self.assertEqual(done.stdout, "reinstated\n", done.stderr)
-        self.assertRegex(done.stderr, "^office: `withdraw 0001000 MA-1` of .* was broken off behind `withdraw 0001000 MA-1`: `office back` lists "
+        self.assertRegex(done.stderr, "^office: `withdraw 0001000 MA-1` of .* was broken off: `office back` lists "
                                       "the copy of .*, before withdraw 0001000 MA-1, and puts it back\n")
 
     def test_a_single_change_that_is_killed_before_it_is_done(self):
@@ -487,7 +486,7 @@ class Taking(Changing):
         self.assertIn("\n1 joins a session without a desk\n  MON-PM 0009001 Zed: joined: EN-1, ", done.stdout)
         self.assertIn("\n1 joins a session\nsession MON-AM: ", done.stdout)
         self.assertEqual((self.state(), self.kept(), self.log()), (before, [], []))
-        self.assertIn("imported; ", self.office("take", facts, stdin="y\n"))
+        self.assertIn("done; ", self.office("take", facts, stdin="y\n"))
         self.assertEqual([os.path.basename(copy).split(" ", 3)[3] for copy in self.kept()], ["take facts"])
         self.assertIn("has all this already: nothing is changed", self.office("take", facts))
         self.assertIn("the office is as it was", self.office("back", "1", "--yes"))
@@ -515,7 +514,7 @@ class Taking(Changing):
         self.write("facts/candidates.csv", text)
         self.assertIn("1 candidate without an access code: nothing is changed; give --codes",
                       self.run_office("take", facts, "--yes").stderr)
-        self.assertIn("imported; ", self.office("take", facts, "--yes", "--codes"))
+        self.assertIn("done; ", self.office("take", facts, "--yes", "--codes"))
         self.assertRegex(self.office("look", "0009002", "--codes"), r"\A0009002 Ann, access code [B-Z][B-Z2-9]{9}\n")
         self.assertIn(f"access code {sample.CODE}\n", self.office("look", sample.NUMBER, "--codes"))
 

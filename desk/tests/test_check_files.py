@@ -146,12 +146,9 @@ class Verdicts(sample.SampleSchool):
         self.write("facts/candidates.csv", "\n".join(["number,name,code", *rows, ""]))
         line = "candidates.csv: 60 candidates have no access code; `office take .. --codes` fills them in; without them " \
             "an import refuses the file\n"
-        once = ("NOTE: once imported: 4 have new clashes: 4 in MON-AM\n"
-                "NOTE: once imported: 6 without a desk: 2 in MON-AM, 2 in MON-PM, 2 in TUE-AM\n")
         done = self.run_office("check-files", "facts", OFFICE=none)
         self.assertEqual((done.returncode, done.stderr), (1, ""))
-        self.assertTrue(done.stdout.startswith(f"{line}{once}"), done.stdout)
-        self.assertTrue(done.stdout.endswith("\n7 files, 0 mistakes, 2 notes\n"), done.stdout)
+        self.assertEqual(done.stdout, f"{line}7 files, 0 mistakes, 0 notes\n")
         self.assertIn(line, self.run_office("check-files", "facts").stdout)
         self.assertIn("refused 1 record 1 column 3\n", self.refused("import", "candidates", path))
         self.assertIn("candidates!C2:C61: code (empty) became the one that the office has; 60 times\n",
@@ -180,13 +177,6 @@ class Verdicts(sample.SampleSchool):
     def test_a_folder_in_the_place_of_a_file(self):
         os.mkdir(os.path.join(self.folder, "halls.csv"))
         self.assertIn("halls.csv: is no file, but a folder", self.refused("check-files", "."))
-
-    def test_the_program_says_where_a_limit_is_passed(self):
-        self.write("sessions.csv", "session,date,start\n" + "".join(f"S{place},2027-06-07,09:00\n" for place in range(398)))
-        done = self.run_office("check-files", ".")
-        self.assertEqual((done.returncode, done.stderr, done.stdout), (1, "", (
-            "sessions.csv: refused 20: a limit would be passed, or the file is too long; the handbook lists the limits\n"
-            "1 file, 1 mistake, 0 notes\n")))
 
     def test_files_at_random(self):
         with tempfile.TemporaryDirectory() as folder, random_files.schools(folder, SEED) as schools:

@@ -2,7 +2,6 @@
 there is none, or where it cannot be read, too."""
 import glob
 import html
-import json
 import os
 import pathlib
 import re
@@ -46,11 +45,11 @@ class TestBroughtBack(Backups):
         page, _ = self.browser.send(*BRING, (name, content))
         words = self.browser.words(page)
         [(person,)] = self.rows("SELECT name FROM candidate WHERE number = 1119")
-        lost = f"appeal {person} 0001119 D1 for MON-AM : open -> gone"
+        lost = f"appeal 0001119 D1 for MON-AM : open -> gone ( {person} )"
         for said in (name, "What would change", "1 would join a session", f"lost: tick each {lost}",
                      "What was done since", "withdraw 0001051 PH-1", f"{name} a backup of 20"):
             self.assertIn(said, words)
-        self.assertIn(f"Einspruch D1 von {person} 0001119 für MON-AM: offen → nicht mehr da",
+        self.assertIn(f"Einspruch D1 von 0001119 für MON-AM: offen → nicht mehr da ({person})",
                       re.sub("<.*?>", "", self.browser.ask("GET", page, headers={"Accept-Language": "de"})[1]))
         self.assertIn(f"{name} a backup that you brought", self.browser.words("/office"))
         self.put_back(page, 422)
@@ -60,7 +59,7 @@ class TestBroughtBack(Backups):
         self.put_back(page, lost=LOST)
         self.assertEqual((snapshot.name_now(self.value), self.rows("SELECT * FROM appeal")), (before, []))
         words = self.browser.words("/office")
-        self.assertIn(f"The office is as in {name} . The office from before is the newest copy. {lost}", words)
+        self.assertIn(f"The office is as in {name} . The office from before is the newest copy. {lost.partition(' (')[0]}", words)
         self.assertRegex(words, f" back to {name} What changed since")
         self.assertEqual(self.left(), [])
         self.browser.get(page, 404)
@@ -71,7 +70,6 @@ class TestBroughtBack(Backups):
     def test_another_school_s_wants_a_tick(self):
         """It has the same numbers; one of its candidates is this school's, with another code; one session has another
         day."""
-        self.office("school", "Hill School")
         copy = os.path.join(self.folder, "copy.db")
         rows = [f"{number:07},{'Di Berg' if number == 1051 else 'Ann'},OTHER{number}\n" for number in range(1001, 1101)]
         sessions = "session,date,start\nMON-AM,2027-06-07,09:00\nMON-PM,2026-06-07,13:30\n"
@@ -81,55 +79,37 @@ class TestBroughtBack(Backups):
         parts = {name[len(self.folder) + 1:]: pathlib.Path(name).read_bytes() for name in glob.glob(copy + "*")}
         [name] = [name for number, name in self.rows("SELECT number, name FROM candidate") if number == 1051]
         self.assertEqual(name, "Di Berg")
-        for school, said in ("Hill School", 1), ("<b>Dale\u202e\ud800</b>", 2):
-            found = zipped({**parts, "notebook/school.json": json.dumps(school)})
-            page, _ = self.browser.send(*BRING, ("other.zip", found))
-            text = self.browser.get(page)
-            lost = list(map(html.unescape, re.findall('name="lost" value="([^"]+)"', text)))
-            self.assertEqual(lost[0], "59 of 60 candidates and 2 of 3 sessions of the office are not in it, and 99 of "
-                                      "its 100 candidates and 1 of its 2 sessions are not in the office: is it another "
-                                      "school's?")
-            self.assertEqual(len(lost), said, lost)
-            self.assertLess(text.index("is it another school"), text.index("<h2>What would change"))
-            self.assertNotRegex(text, "<b>Dale|\u202e")
-            sessions = text.partition('id="of-sessions"')[2].partition("</table>")[0]
-            self.assertRegex(sessions, r'(?s)TUE-AM .*?<small>\d+ →</small> <b>–</b>')  # it is gone then
-            for some in ({}, {"lost": lost[1:]}):
-                self.assertIn("tick each of these", self.put_back(page, 422, **some)[1])
+        page, _ = self.browser.send(*BRING, ("other.zip", zipped(parts)))
+        text = self.browser.get(page)
+        lost = list(map(html.unescape, re.findall('name="lost" value="([^"]+)"', text)))
+        self.assertEqual(lost, ["only 1 of the 60 candidates of the office are in it: is it another school's?"])
+        self.assertLess(text.index("is it another school"), text.index("<h2>What would change"))
+        sessions = text.partition('id="of-sessions"')[2].partition("</table>")[0]
+        self.assertRegex(sessions, r'(?s)TUE-AM .*?<small>\d+ →</small> <b>–</b>')  # it is gone then
+        self.assertIn("tick each of these", self.put_back(page, 422)[1])
         self.put_back(page, lost=lost)
         self.assertEqual(len(self.rows("SELECT * FROM candidate")), 100)
         self.assertIn("another school's?", self.log().splitlines()[-1])
-        self.assertIn("taken away: 99 of 100 candidates and 1 of 2 sessions ", self.office("what-if", "back", "1"))
+        self.assertIn("taken away: only 1 of the 100 candidates of the office ", self.office("what-if", "back", "1"))
 
     def test_an_empty_one_wants_a_tick_and_the_first_import_is_taken_back_without(self):
         parts = {os.path.basename(name): pathlib.Path(name).read_bytes() for name in glob.glob(self.path + "*")}
         empty = os.path.join(self.folder, "empty.db")
         self.office("init", OFFICE=empty)
-        page, _ = self.browser.send(*BRING, ("empty.db", pathlib.Path(empty).read_bytes()))
-        self.assertIn("60 of 60 candidates and 3 of 3 sessions", self.browser.words(page))
+        page, _ = self.browser.send(*BRING, ("empty.zip", zipped({
+            name: pathlib.Path(empty + name[9:]).read_bytes() for name in ("office.db", "office.db-wal")})))
+        self.assertIn("only 0 of the 60 candidates", self.browser.words(page))
         self.put_back(page, 422)
         for name in parts:
             os.replace(empty + name.removeprefix("office.db"), os.path.join(self.folder, name))
         self.office("import", "candidates", self.examples / "candidates.csv")
         self.assertNotIn("taken away", self.office("back", "1", "--yes"))
 
-    def test_one_of_its_two_files_alone(self):
-        files = [(f"office.db{ending}", pathlib.Path(self.path + ending).read_bytes()) for ending in ("", "-wal")]
-        self.office("withdraw", "0001051", "PH-1")
-        self.office("back", "1", "--yes")
-        self.assertFalse(os.path.exists(self.path + "-wal"))  # a copy that is put back is one file
-        for found, is_alone in ((files[:1], True), ([("x.zip", zipped(dict(files[:1])))], True), (files, False),
-                                ([self.handed_out()], False)):
-            page, _ = self.browser.send(*BRING, *found)
-            words = self.browser.words(page)
-            self.assertEqual("the last changes may be missing" in words, is_alone, found[0][0])
-            self.assertEqual("do not say from when it is" in words, not found[0][0].endswith(".zip"))
-
     def test_what_is_none_is_refused_at_its_field(self):
         before = snapshot.name_now(self.value)
-        for content, said in ((b"number,paper\n", "there is no office in it"), (b"", "there is no office in it"),
-                              (b"PK\3\4 no zip", "it is broken"),
-                              (b"SQLite format 3\0" + bytes(5000), "this copy is no good office")):
+        for content, said in ((b"number,paper\n", "it is no zip"), (zipped({"x": b""}), "there is no office in it"),
+                              (zipped({"office.db": b"SQLite format 3\0" + bytes(5000), "office.db-wal": b""}),
+                               "this copy is no good office")):
             _, text = self.browser.send(*BRING, ("<b>x.zip", content), status=422)
             self.assertRegex(text, 'name="backup"[^>]*aria-invalid="true"')
             self.assertRegex(text, f'id="fault-bring-backup"[^>]*>[^<]*(<bdi>)?{said}')
@@ -162,7 +142,7 @@ class TestWithoutAnOffice(Backups):
         os.rename(os.path.join(self.desk, "notebook"), os.path.join(self.folder, "old"))
         _, text = self.browser.send(*FIRST, ("x.zip", b"no"), status=422)
         self.assertIn("There is no office yet", text)
-        self.assertIn("there is no office in it", text)
+        self.assertIn("it is no zip", text)
         page, _ = self.browser.send(*FIRST, self.zip)
         words = self.browser.words(page)
         self.assertIn("What is in it 3 sessions Mon 7 Jun 2027 – ", words)

@@ -17,7 +17,7 @@ from sample import DESK
 
 OPEN = {"/enter", "/static/desk.css"}  # without a visit
 VALUES = {"number": "1051", "code": "MON-AM", "hall": "PC1", "ref": "D1", "key": "nothing", "what": "withdraw",
-          "sheet": "doors", "paper": "MA-1",
+          "sheet": "doors", "paper": "MA-1", "table": "seats",
           "kind": "entries", "filename": "desk.css"}
 SCREENS = ["/", "/sessions/MON-AM", "/sessions/MON-AM/halls/PC1", "/sessions/MON-AM/printed", "/candidates",
            "/candidates/1051", "/appeals", "/clashes", "/files", "/office"]

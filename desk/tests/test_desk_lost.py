@@ -65,13 +65,13 @@ class TestLostDesks(SmallSchool):
             self.assertRegex(self.browser.words(page), rf"candidates.* {count} ")  # the rows of one file are counted, too
 
     def test_the_tick_has_the_number_of_all_though_the_first_are_named(self):
-        numbers = range(1, 104)
-        self.begin("A,Hall A,-\n", "S1,A,200,18:00,no\n", "".join(f"{n:07},SHORT\n" for n in numbers))
+        numbers = range(1, 254)
+        self.begin("A,Hall A,-\n", "S1,A,400,18:00,no\n", "".join(f"{n:07},SHORT\n" for n in numbers))
         text = "number,paper\n" + "".join(f"{n:07},LONG\n" for n in numbers)
         where, _ = self.browser.send("/files", "/files", "files", ("entries.csv", text.encode()))
         page, _ = self.browser.post("/propose/files", where, upload=where.rpartition("/")[2])
         words = self.browser.words(page)
-        self.assertIn("This is meant: 103 would newly have two papers at once", words)
+        self.assertIn("This is meant: 253 would newly have two papers at once", words)
         self.assertIn("and 3 more", words)
 
     def test_two_papers_at_once_and_two_sessions_at_one_time_want_a_tick(self):

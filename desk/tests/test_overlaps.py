@@ -78,47 +78,5 @@ class Overlaps(sample.SampleSchool):
         self.assertNotIn("at one time", told)
 
 
-class Files(sample.SampleSchool):
-    def checked(self, status=0, **texts):
-        folder = os.path.join(self.folder, f"files-{len(os.listdir(self.folder))}")
-        os.mkdir(folder)
-        for kind, text in texts.items():
-            self.write(os.path.join(folder, f"{kind}.csv"), text)
-        done = self.run_office("check-files", folder)
-        self.assertEqual((done.returncode, done.stderr), (status, ""), done.stdout)
-        return done.stdout.split("\n")[:-1]
-
-    def test_overlaps(self):
-        before = self.office("export", "MON-AM")
-        lines = self.checked(**FILES)
-        self.assertEqual([line for line in lines if "overlap" in line],
-                         [f"NOTE: once imported: {note}" for note in NOTES])
-        self.assertRegex(lines[-1], f"^5 files, 0 mistakes, {len(lines) - 1} notes?$")
-        self.assertEqual(self.office("export", "MON-AM"), before)
-
-    def test_who_loses_a_desk_or_misses_a_paper(self):
-        rows = (self.examples / "openings.csv").read_text("utf-8").replace("MON-AM,GYM,24", "MON-AM,GYM,2")
-        lines = self.checked(openings=rows, entries="number,paper\n0001000,LAT\n")
-        self.assertRegex(lines[0], r"^NOTE: once imported: \d+ lose their desks: \d+ in MON-AM$")
-        self.assertIn("NOTE: once imported: 1 has a new clash: MON-AM 0001000 Ada Lin", lines)
-
-    def test_without_an_office(self):
-        os.remove(self.path)
-        texts = {kind: (self.examples / f"{kind}.csv").read_text("utf-8") for kind in sample.KINDS}
-        self.assertEqual(self.checked(**texts), [
-            "NOTE: once imported: 4 have new clashes: 4 in MON-AM",
-            "NOTE: once imported: 6 without a desk: 2 in MON-AM, 2 in MON-PM, 2 in TUE-AM", "7 files, 0 mistakes, 2 notes"])
-        self.assertFalse(os.path.exists(self.path))
-
-    def test_what_cannot_be_tried(self):
-        [line, last] = self.checked(status=1, entries="number,paper\n1000,LAT\n")
-        self.assertIn("write 0001000", line)
-        program = self.write("program", "#!/bin/sh\necho refused 22 >&2\nexit 1\n")
-        os.chmod(program, 0o700)
-        self.environment["EXAMOFFICE"] = program
-        self.assertEqual(self.checked(entries="number,paper\n0001000,LAT\n")[0],
-                         "NOTE: nobody can say what the files would do: the program says refused 22 to entries.csv")
-
-
 if __name__ == "__main__":
     unittest.main()

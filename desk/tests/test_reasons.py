@@ -82,17 +82,14 @@ class InShort(unittest.TestCase):
         seated = seated._replace(sitting=seated.sitting._replace(hall="H001", desk=1))
         reasons = found([seated, member(2, (), "09:30")], [Opening("H001", "Hall", 0, 1, 600, False)])
         reasons.taken["H001"] = ["0000001"]
-        right = Shortage("S", 1, 1, 1, [("H001", 1)], 2, ["0000001", "0000002"])
+        right = Shortage(1, 1, [("H001", 1)], ["0000001", "0000002"])
         self.assertEqual(list(reasons.faults(right)), [])
         for sheet, said in (
-                (right._replace(candidates=["0000001", "0000003"]), "0000002 has no desk and is not listed"),
-                (right._replace(candidates=["0000001", "0000003"]), "0000003 is not a member of the session"),
-                (right._replace(halls=[("H001", 2)], desks=2), "hall H001 with 1 desks suits one of the candidates, but"),
-                (right._replace(halls=[("H001", 1)] * 2, hall_count=2, desks=2), "hall H001 is listed 2 times"),
+                (right._replace(candidates=["0000001"]), "0000002 has no desk and is not listed"),
+                (right._replace(halls=[("H001", 2)]), "hall H001 with 1 desks suits one of the candidates, but is not listed"),
+                (right._replace(halls=[("H001", 2)]), "hall H001 with 2 desks is listed, but suits none of the candidates"),
                 (right._replace(unseated=2), "unseated: the sheet counts 2, and there are 1")):
-            self.assertIn(said, "\n".join(reasons.faults(sheet)))
-        reasons.taken["H001"] = []
-        self.assertEqual(list(reasons.faults(right)), ["hall H001 is listed, and 1 of its desks are free"])
+            self.assertIn(said, list(reasons.faults(sheet)))
 
 
 if __name__ == "__main__":

@@ -66,19 +66,19 @@ class Ending(sample.KeptSchool):
 
 
 class Crowded(unittest.TestCase):
-    def test_status_does_not_call_a_refusal_no_answer(self):
+    def test_status_where_no_answer_comes(self):
         state = {"pid": 7, "place": "8080", "state": "serving", "day": "2027-05-01"}
         with (mock.patch("exam_desk.turns.keep_state", return_value=state),
               mock.patch("exam_desk.asking.answer") as answer):
-            for said, why in ((hold.FULL, "it has more clients than it takes at once, or no memory"),
-                              (hold.FULL[:-1], "no answer came within 5 seconds; it begins anew by itself"),
-                              (OSError(), "no answer came within 5 seconds; it begins anew by itself")):
+            for said in hold.FULL, hold.FULL[:-1], OSError():
                 answer.side_effect = [said]
-                self.assertEqual(keeping.status(None), (False, f"process 7 does not serve now: {why}"))
+                self.assertEqual(keeping.status(None), (False, "process 7 does not serve now: no answer within 5 seconds, or "
+                                                               "more clients than it takes at once; it tries again by itself"))
 
     def test_status_of_what_runs_elsewhere_or_could_write_nothing(self):
         for state, said in (({"pid": 0, "state": "serving"}, "`keep` runs in another container or on another machine: ask there"),
-                            ({"pid": 7}, "process 7 runs, but cannot write down what it does: is the disk full?")):
+                            ({"pid": 7}, "process 7 does not serve now: it begins, or a command has the office; it tries again "
+                                         "by itself")):
             with mock.patch("exam_desk.turns.keep_state", return_value=state):
                 self.assertEqual(keeping.status(None), (False, said))
 
@@ -106,7 +106,7 @@ class Hanging(sample.SampleSchool):
 
     async def hangs(self):
         self.asked = []
-        keep = keeping.Keep(self.value, str(sample.free_port()), 2, turns.lock_file(self.value, "keep.lock"))
+        keep = keeping.Keep(self.value, str(sample.free_port()), turns.lock_file(self.value, "keep.lock"))
         served = asyncio.create_task(keep.run())
         answer = await keep.hold.answer(b"GET / HTTP/1.0\r\n\r\n")
         keep.end()
@@ -122,7 +122,7 @@ class Hidden(sample.SampleSchool):
             asyncio.run(self.is_refused(say))
 
     async def is_refused(self, say):
-        keep = keeping.Keep(self.value, str(sample.free_port()), 2, turns.lock_file(self.value, "keep.lock"))
+        keep = keeping.Keep(self.value, str(sample.free_port()), turns.lock_file(self.value, "keep.lock"))
         served = asyncio.create_task(keep.run())
         async with asyncio.timeout(sample.PATIENCE):
             while "/proc does not show that serve has port" not in str(say.mock_calls):
@@ -151,7 +151,7 @@ class Starting(sample.SampleSchool):
 
     def test_a_long_fault_is_cut_and_a_cut_text_is_none(self):
         with turns.lock_file(self.value, "keep.lock") as lock:
-            keeping.Keep(self.value, "8080", 2, lock).show("\u6f22\"\n" * 1000)
+            keeping.Keep(self.value, "8080", lock).show("\u6f22\"\n" * 1000)
             self.assertEqual(json.loads(turns.text_of(self.value, "keep.lock"))["place"], "8080")
         for said in (b'{"pid": 7, "place": "8080", "state": "serve ended: \xc3', b"[1, 2]", b"[" * 1000, b"\xff\x00", b"7"):
             self.assertEqual(turns.said_by(7, said), {"pid": 7})
@@ -318,8 +318,8 @@ class Days(sample.SampleSchool):
         os.chmod(self.desk, 0o700)
         for name in names:
             os.mkdir(os.path.join(days, name), 0o700)
-        with mock.patch("exam_desk.keeping.say"):
-            keeping.Keep.keep_day(mock.Mock(days=2, office=self.value, day=self.value.today()))
+        with mock.patch("exam_desk.keeping.say"), mock.patch("exam_desk.copies.MOST_DAYS", 2):
+            keeping.Keep.keep_day(mock.Mock(office=self.value, day=self.value.today()))
         self.assertEqual(sorted(os.listdir(days)), sorted([*names[2:], sample.TODAY]))
 
 

@@ -67,7 +67,7 @@ class There(SecondSitting):
         self.assertIn("watched since 10:30, comes from R14", second)
         self.assertNotIn("stay with", second)
         listed = self.run_office("absent", "MON-AM", TODAY="2027-06-07")
-        self.assertIn("NOTE MA-1 is sat in MON-AM-2 too: `office absent MON-AM-2` has 1 candidate\n", listed.stderr)
+        self.assertIn("NOTE MA-1 is sat in MON-AM-2 too: `office absent MON-AM-2` lists it\n", listed.stderr)
 
     def test_the_first_makes_a_session_and_a_paper(self):
         said = self.second(*ONE)

@@ -118,8 +118,7 @@ class StandIns(sample.SampleSchool):
 
     def test_a_hall_that_the_sheet_has_not(self):
         pages = self.pages(UNSEATED, paper="MA-1")
-        self.assertIn("hall LIB with 6 desks suits one of the candidates, but is not listed with as many desks",
-                      pages.faults)
+        self.assertIn("hall LIB with 6 desks suits one of the candidates, but is not listed", pages.faults)
 
     def test_hall(self):
         pages = self.pages(hall="R12")

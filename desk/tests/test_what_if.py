@@ -42,10 +42,10 @@ class WhatIf(test_changing.Changing):
     def test_back_of_a_bad_copy_and_of_none(self):
         self.office("withdraw", "0001000", "MA-1")
         self.assertIn("there is no copy 2", self.refused("what-if", "back", "2"))
-        self.assertIn("`office back` does not change the office; ", self.refused("what-if", "back"))
+        self.assertIn("`office back` changes no seat; ", self.refused("what-if", "back"))
         done = self.run_office("what-if", "back", "x")
         self.assertEqual((done.returncode, done.stdout), (2, ""))
-        self.assertIn("'x' is no number of a copy; `office back` lists them", done.stderr)
+        self.assertIn("argument NUMBER: invalid int value: 'x'", done.stderr)
         self.assertEqual(self.office("what-if", "back", "1", "--yes"), self.office("what-if", "back", "1"))
         [copy] = self.kept()
         with contextlib.closing(sqlite3.connect(os.path.join(copy, "office.db"))) as file:
@@ -69,10 +69,7 @@ class WhatIf(test_changing.Changing):
         for words, line in ((["name", "1000", "Ada Lovelace"], r"1 has another name\n  0001000 .*Ada Lovelace"),
                             (["codes", "1051"], "1 has another access code\n  0001051"),
                             (["take", facts], "entries.csv: added 2 changed 0 same 172\n"),
-                            (["open-hall", "MON-AM", "PC1", "12", "12:30"], "\n1 gets a desk\n"),
-                            (["lodge", "1051", "MON-AM", "hall", "PC1", "a draught"],
-                             r"\A0001051 D1 open\nlodging moves nobody; if you granted it afterwards:\n"
-                             r"decided granted hall - moved 0\n1 loses the desk\n  MON-AM 0001051 Di Berg: PC1 desk 1 -> ")):
+                            (["open-hall", "MON-AM", "PC1", "12", "12:30"], "\n1 gets a desk\n")):
             self.assertRegex(self.office("what-if", *words), line)
             self.assertEqual((self.state(), self.kept(), self.log()), (before, [], []), words)
         done = self.run_office("what-if", "withdraw", "--list", leave)
@@ -97,7 +94,7 @@ class WhatIf(test_changing.Changing):
         path = self.write("leave.csv", "number,paper\n0001017,MA-1\n")
         done = self.run_office("what-if", "reinstate", "--list", path)
         self.assertEqual((done.returncode, done.stdout), (1, "0 of 1 row would be done\n"))
-        self.assertEqual(done.stderr, "1 row refused (line 2): the entry is not withdrawn\n")
+        self.assertEqual(done.stderr, "line 2: reinstate 0001017 MA-1: refused 10\n  the entry is not withdrawn\n")
 
     def test_steps_that_were_made_for_another_state(self):
         """Another command came between the look at the office and the rehearsal."""
@@ -105,27 +102,22 @@ class WhatIf(test_changing.Changing):
         with changing.rehearse(self.value, [step]) as rehearsal:
             before, after = (snapshot.name_now(self.value, path) for path in (rehearsal.before, rehearsal.after))
             for state in ("another", after):
-                plan = programs.Asked([step], question="", done="", is_agreed=True, made_for=state)
+                plan = programs.Asked(steps=[step], is_agreed=True, made_for=state)
                 with self.assertRaisesRegex(Stale, "the office changed meanwhile, so nothing is changed"):
                     plan.said(rehearsal)
-            self.assertEqual(programs.Asked([step], question="", done="", is_agreed=True, made_for=before,
+            self.assertEqual(programs.Asked(steps=[step], is_agreed=True, made_for=before,
                                             own=lambda before, after: []).said(rehearsal), 0)
 
     def test_take_is_its_rehearsal_without_the_question(self):
         facts = self.facts()
         self.assertEqual(self.run_office("take", facts, stdin="n\n").stdout,
-                         self.office("what-if", "take", facts) + "import all this? [y/N] ")
+                         self.office("what-if", "take", facts) + "do this? [y/N] ")
 
     def test_what_changes_nothing_is_refused_and_not_done(self):
-        for word in ("summary", "keep", "init", "what-if", "nothing"):
-            self.assertIn(f"`office {word}` does not change the office; name a command that does: back, close-hall, codes, "
-                          "decide, import, lodge, migrate, name, open-hall, reinstate, second-sitting, take, withdraw\n",
-                          self.refused("what-if", word))
-        self.assertIn("refused 11\n", self.refused("what-if", "lodge", "0001051", "TUE-AM", "hall", "PC1", "x"))
-        for word in ("absent", "notes", "printed", "rows", "school"):
-            self.assertEqual(self.refused("what-if", word, "x"),
-                             f"office: `office {word} ..` changes no seat, so there is nothing to rehearse; `office {word}` "
-                             "alone shows what is kept, and `office printed` which papers are out of date by it\n")
+        for word in ("summary", "keep", "init", "what-if", "nothing", "lodge", "absent", "notes", "printed", "rows", "school"):
+            self.assertIn(f"`office {word}` changes no seat; name a command that does: back, close-hall, codes, decide, import, "
+                          "migrate, name, open-hall, reinstate, second-sitting, take, withdraw\n",
+                          self.refused("what-if", word, "x"))
         self.assertRegex(self.refused("what-if"), r"\Aoffice: name a command that does: back, .*, withdraw\n\Z")
         self.assertEqual(self.run_office("what-if", "take").returncode, 2)
         self.assertIn("office name", self.office("what-if", "name", "--help"))

@@ -49,10 +49,9 @@ class Words(sample.SampleSchool):
     def test_an_empty_code(self):
         self.write("new.csv", "number,name,code\n0001051,Ann,\n")
         said = self.refused("import", "candidates", "new.csv")
-        self.assertIn("office name NUMBER NAME", said)
-        self.assertIn("office take FILE --codes", said)
+        self.assertIn("`office take .. --codes` fills them in", said)
         code = self.row()[1]
-        self.assertIn("added 0 changed 1 same 0\n", self.office("take", "new.csv", "--codes", "--yes"))
+        self.office("take", "new.csv", "--codes", "--yes")
         self.assertEqual(self.row(), ("Ann", code))
 
 

@@ -200,14 +200,14 @@ def elsewhere(made: Mapping[str, sqlite3.Row], starts: Mapping[str, int], sits: 
               ) -> Iterator[str]:
     """What invigilators must know: what somebody sits in another session at that time; and where a second sitting is
     behind this one, or is this one, that somebody stays with them in between."""
-    for other in overlaps.beside(starts, sits, all_of):
-        when = f"until {other.finish}" if starts[other.session] < starts[sits.session] else f"from {other.start}"
-        yield f"sits {other.session} {when}, in {other.hall or 'no hall yet'}"
-    mine = made.get(sits.paper)
+    beside, mine = overlaps.beside(starts, sits, all_of), made.get(sits.paper)
     for other in all_of:
-        first = made.get(other.paper)
+        first, where = made.get(other.paper), other.hall or "no hall yet"
+        if other in beside:
+            when = f"until {other.finish}" if starts[other.session] < starts[sits.session] else f"from {other.start}"
+            yield f"sits {other.session} {when}, in {where}"
         if first and first["session"] == sits.session:
-            yield f"stay with them: {first['code']} at {other.start} in {other.hall or 'no hall yet'}"
+            yield f"stay with them: {first['code']} at {other.start} in {where}"
         elif mine and mine["session"] == other.session:
             yield f"watched since {other.finish}, comes from {other.hall or 'no hall'}"
 

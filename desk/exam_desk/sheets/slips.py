@@ -74,8 +74,8 @@ def row(choice: Choice, sat: Sat, papers: Mapping[str, Markup], halls: Mapping[s
 def csv_text(reading: Reading, choice: Choice) -> str:
     """A row for each candidate and session, in the order of the slips. No spreadsheet finds a formula in it."""
     papers, halls, rows = facts.paper_titles(reading.rows), facts.hall_titles(reading.rows), [HEADER]
-    for code, own in pages.made_of(reading.rows, papers).items():
-        papers[code] += pages.SECOND.format(own)
+    made = pages.made_of(reading.rows, papers)
+    papers |= {code: papers[code] + pages.SECOND.format(own) for code, own in made.items()}
     for person, group, note, sat in slips_of(reading, choice):
         for sits, missed, beside in sat:
             values = [person.number, person.name, sits.session, sits.date, sits.start, sits.finish, sits.paper,

@@ -22,7 +22,7 @@ EXAMPLES = {
     "entries": ["0001000", "EN-1"]}
 MEANS = {
     "number": "The number of the candidate", "name": "The name of the candidate, as on the lists",
-    "code": "The access code for the web page. Leave it empty, and `office take .. --codes` makes one",
+    "code": "The access code for the web page. Leave it empty, and `office take --codes` makes one",
     "session": "The code of the session", "date": "The day of the session", "start": "When the session begins",
     "paper": "The code of the paper", "title": "What people call it", "minutes": "How long the paper lasts",
     "requires": "What the hall must have for this paper", "hall": "The code of the hall",
