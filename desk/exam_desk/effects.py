@@ -9,7 +9,6 @@ from typing import NamedTuple
 from exam_desk import copies, facts, lists, notebook, on_paper, overlaps, telling
 from exam_desk.asking import Progress
 from exam_desk.office import Office, Trouble
-from exam_desk.overlaps import Overlap
 from exam_desk.reading import Person, Reading
 from exam_desk.second_sitting import left_behind
 from exam_desk.telling import KINDS, counted
@@ -50,7 +49,7 @@ class Effects:
         self.kinds = telling.by_kind(telling.of_touched(before, after, self.touched) if has_seats(before) else [])
         self.changes = [*dict.fromkeys(each for part in self.kinds.values() for each in part)]
         self.clashes = [*new_clashes(before, after, self.touched)]
-        self.overlaps = with_people(after, overlaps.new(before, after, self.touched))
+        self.overlaps = [(each, by_name(after, each.candidates)) for each in overlaps.new(before, after, self.touched)]
         self.over = over(self)
         self.out_of_date = {code: papers for code in self.touched if (papers := out_of_date(before, after, code))}
         self.codes = by_name(after, [key for key, column, *_ in telling.other_values(before, after, ["candidates"])
@@ -112,8 +111,7 @@ def over(effects: Effects) -> dict[str, tuple[str, int]]:
     met = {(code, each.number) for each in effects.changes if each.kind() != "name" for code in each.sessions()}
     counts = Counter(code for code, _ in met | {(code, person.number) for code, person, _ in effects.clashes})
     if not has_seats(before):
-        was = figures(before)
-        counts = Counter({code: now[0] for code, now in figures(after).items() if was.get(code) != now})
+        counts = Counter({code: people for code, (people, _) in figures(after).items() if code in effects.touched})
     days = sorted((day, code) for reading in (before, after) for code, day, _ in facts.sessions(reading.rows))
     first = {code: day for day, code in reversed(days)}
     return {code: (day, counts[code]) for code, day in reversed(first.items())
@@ -149,11 +147,6 @@ def new_clashes(before: Reading, after: Reading, sessions: Iterable[str]) -> Ite
 def at_once(reading: Reading, session: str, number: str, missed: Mapping[str, list[str]]) -> set[str]:
     """All papers of a session that somebody is entered for who misses some of them."""
     return {reading.all_of(number)[session].paper, *missed[number]}
-
-
-def with_people(reading: Reading, found: Iterable[Overlap]) -> list[tuple[Overlap, list[Person]]]:
-    """Two sessions at one time, with who is in both."""
-    return [(each, by_name(reading, each.candidates)) for each in found]
 
 
 def by_name(reading: Reading, numbers: Iterable[str]) -> list[Person]:

@@ -48,38 +48,22 @@ class Overlap(NamedTuple):
     halls: list[str]
 
 
-def of_candidate(reading: Reading, number: str) -> list[Overlap]:
-    """The overlaps of the sessions in which a candidate sits, as far as they or their halls are in both."""
-    own, doubtful = reading.all_of(number), list[Doubtful]()
-    opened = {(session, hall) for session, hall in reading.rows.execute("SELECT session, hall FROM opening")}
-    for pair in pairs(reading, own) if own else []:
-        mine = [own[code].hall for code in (pair.early, pair.late) if code in own]
-        doubtful += [Doubtful(pair, None, number)] * (len(mine) == 2)
-        if any({(pair.early, hall), (pair.late, hall)} <= opened for hall in mine):
-            there = reading.rows.execute(IN_HALLS, pair._asdict())
-            doubtful += [Doubtful(pair, hall, each) for hall, each in there if hall in mine]
-    return certain(reading, doubtful)
-
-
-def found(reading: Reading, asked: Collection[str] = ()) -> list[Overlap]:
-    """The overlaps of these sessions with any others, otherwise all, by day and start."""
-    return certain(reading, in_doubt(reading, asked))
-
-
-def in_doubt(reading: Reading, asked: Collection[str] = ()) -> list[Doubtful]:
-    """Whom the rows leave in doubt in the pairs of these sessions with any others, otherwise in all."""
+def found(reading: Reading, asked: Collection[str] = (), number: str | None = None) -> list[Overlap]:
+    """The overlaps of these sessions with any others, otherwise all, by day and start; of one candidate those of the
+    sessions in which they sit, as far as they or their halls are in both."""
+    own, doubtful = reading.all_of(number) if number else {}, list[Doubtful]()
     reading.rows.index_entries()
-    return [Doubtful(pair, hall, number) for pair in pairs(reading, asked) for hall, number in
-            reading.rows.execute(f"{IN_BOTH} UNION ALL {IN_HALLS}", {**pair._asdict(), "longest": LONGEST})]
-
-
-def numbers_of(doubtful: Collection[Doubtful]) -> list[str]:
-    return sorted({each.number for each in doubtful})
+    for pair in pairs(reading, asked or own) if own or not number else []:
+        mine = {own[code].hall for code in (pair.early, pair.late) if code in own}
+        there = reading.rows.execute(f"{IN_BOTH} UNION ALL {IN_HALLS}", {**pair._asdict(), "longest": LONGEST})
+        doubtful += [Doubtful(pair, hall, each) for hall, each in there
+                     if not number or (hall in mine if hall else each == number)]
+    return certain(reading, doubtful)
 
 
 def certain(reading: Reading, doubtful: Collection[Doubtful]) -> list[Overlap]:
     """What is left when the program has said who sits until when."""
-    reading.ask(map(reading.person, numbers_of(doubtful)))
+    reading.ask(map(reading.person, sorted({each.number for each in doubtful})))
     overlaps: dict[Pair, Overlap] = {}
     for pair, hall, number in doubtful:
         if length(reading.all_of(number)[pair.early]) > pair.gap:

@@ -162,17 +162,13 @@ def is_live(rows: Rows, number: str, paper: str) -> bool | None:
     return None if found is None else bool(found[0])
 
 
-def sat_later(rows: Rows, number: str, paper: str) -> list[sqlite3.Row]:
-    """The papers that were made of a paper for second sittings, and for which a candidate is entered."""
-    return [second for first, second in pairs(rows)
-            if first["code"] == paper and is_live(rows, number, second["code"])]
-
-
 def plan_back(reading: Reading, number: str, paper: str) -> Plan:
     """The steps that take a second sitting back. Raises `Trouble` where the candidate has none of this paper."""
     first = paper_row(reading.rows, paper)
     reading.person(typed.candidate_number(number))
-    found, live = sat_later(reading.rows, number, paper), is_live(reading.rows, number, paper)
+    live = is_live(reading.rows, number, paper)
+    found = [second for one, second in pairs(reading.rows) if one["code"] == paper
+             and is_live(reading.rows, number, second["code"])]
     if not found:
         raise Trouble(f"{number} has no second sitting of {paper}; nothing is changed")
     if len(found) > 1:
@@ -218,11 +214,9 @@ def refuse_otherwise(planned: Plan, after: Reading, first: Sitting, second: Memb
     if then.hall != planned.hall:
         reason = dict(Reasons(after, planned.session).of(second)).get(planned.hall)
         raise Trouble(f"{number} would have no desk in {planned.hall} ({reason}); nothing is changed")
-    for each in overlaps.of_candidate(after, number):
-        if each.candidates and planned.session in (each.early, each.late):
-            other = after.all_of(number)[each.early if each.late == planned.session else each.late]
-            raise Trouble(f"{number} sits {other.paper} in {other.session} from {other.start} to {other.finish}, and "
-                          f"would sit {then.paper} from {then.start} to {then.finish}; nothing is changed")
+    for other in overlaps.beside(overlaps.starts(after), then, after.all_of(number).values()):
+        raise Trouble(f"{number} sits {other.paper} in {other.session} from {other.start} to {other.finish}, and would "
+                      f"sit {then.paper} from {then.start} to {then.finish}; nothing is changed")
 
 
 def left_behind(before: Reading, after: Reading) -> list[Said]:

@@ -155,7 +155,7 @@ def clashes() -> str:
 
 @clash_pages.get("/overlaps")
 def overlapping() -> str:
-    found = effects.with_people(view().reading, overlaps.found(view().reading))
+    found = [(each, effects.by_name(view().reading, each.candidates)) for each in overlaps.found(view().reading)]
     return render_template("overlaps.html", overlaps=found, most=MOST_SHOWN)
 
 

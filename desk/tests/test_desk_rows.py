@@ -115,7 +115,7 @@ class TestSessions(Rows):
         self.office("import", "entries", self.write("entries.csv", "number,paper\n0000002,CODING\n"))
         self.office("second-sitting", "0000002", "SHORT", "13:00", "A", "--yes")
         _, _, words = self.move(date="2027-06-14", start="09:00")
-        self.assertIn("SHORT-2 in S1-2 , a second sitting of SHORT , stays as it is", words)
+        self.assertRegex(words, "second sittings stay as they are, though their papers are changed: SHORT-2 ")
 
     def test_refused_at_its_field(self):
         self.refused("session", SESSION, {"session": "S1", "at": "S1", "date": "2027-06-09", "start": "10:00"}, {

@@ -11,7 +11,6 @@ import unittest
 import urllib.parse
 
 from desk_client import HAS_FLASK, PYTHON, DeskSchool, SmallSchool, effects
-from exam_desk import notebook
 from sample import DESK, TOP
 
 EXTRA = "no needs, 25 % extra time"
@@ -115,8 +114,8 @@ class TestPeople(SmallSchool):
                                        "0000002,SHORT\n0000002,LONG\n")
         words = self.browser.words("/")
         self.assertIn("2 candidates 2 sessions 3 sittings 2 without a desk ( 3 sittings)", words)
-        self.assertIn("2 candidates with two papers at once and no appeal in S1", words)
-        self.assertIn("1 candidate with two papers at once and no appeal in S2", words)
+        self.assertIn("2 candidates with two papers at once and no appeal open or granted in S1", words)
+        self.assertIn("1 candidate with two papers at once and no appeal open or granted in S2", words)
         self.begin("A,Hall A,-\n", "S2,A,1,18:00,no\n", "0000001,SHORT\n0000001,LONG\n0000001,OTHER\n")
         words = self.browser.words("/")
         self.assertIn("1 candidate 2 sessions 2 sittings 1 without a desk 0 open appeals", words)
@@ -386,8 +385,7 @@ class TestSchool(DeskSchool):
             self.assertRegex(text, 'name="name"[^>]*aria-invalid="true"')
             self.assertIn("an empty field takes it away", text)
         self.assertEqual(self.office("school"), '"Hill" & <b>Cö</b>\n')
-        with notebook.alone(self.value) as folder:
-            notebook.write(self.value, folder, "school", ["damaged"])
+        pathlib.Path(self.desk, "notebook", "school.json").write_text('["damaged"]', "utf-8")
         self.assertIn("Copies from before each change", self.browser.words("/office"))
         self.ask("é" * 40)
         self.assertEqual(self.office("school"), "é" * 40 + "\n")

@@ -39,7 +39,7 @@ def asked_lines(reading: Reading, asked: str, codes: bool) -> list[str]:
     for person in found:
         said.append(f"{person.number} {person.name}" + (f", access code {person.code}" if codes else ""))
         if len(found) <= MOST_SHOWN:
-            twice, number = overlaps.of_candidate(reading, person.number), int(person.number)
+            twice, number = overlaps.found(reading, number=person.number), int(person.number)
             arranged = reading.rows.execute("SELECT needs, extra FROM arrangement WHERE number = ?", [number])
             said += [*entries(reading, person), *(f"  NOTE: {overlaps.line(reading, each)}" for each in twice),
                      *(f"  imported arrangement: needs {feature_text(needs)}, extra {extra}"
