@@ -90,7 +90,7 @@ def name(parser: command.Parser) -> command.Plan:
     from commands import programs
     from exam_desk import coding
     given = command.given(parser, "number", "name")
-    step = coding.renamed(command.office(), given.number, given.name)
+    step = coding.other_rows(command.office(), [given.number], given.name)
     return programs.Change(steps=[step], title=f"name {given.number}")
 
 

@@ -13,7 +13,7 @@ from exam_desk.words import plain
 
 if TYPE_CHECKING:
     from argparse import Namespace
-    from exam_desk.workbook.reading import Reading
+    from exam_desk.workbook.tables import Job
 
 LINES = "read.txt"  # in the folder that `read` makes: what was changed
 
@@ -34,7 +34,7 @@ def given_source(parser: command.Parser, *words: str) -> Namespace:
     return command.given(parser, "--all: print a line for each cell, also where many say the same", *words)
 
 
-def read_source(office: Office, given: Namespace) -> Reading:
+def read_source(office: Office, given: Namespace) -> Job:
     """Reads a workbook, or a folder of import files, as the options say, and prints what was changed, and what is wrong.
     Raises `Trouble` where it cannot be read."""
     from exam_desk.checking import office_knows
@@ -44,16 +44,15 @@ def read_source(office: Office, given: Namespace) -> Reading:
     job = tables.Job(office_knows(office), way, asked, given.sheet, given.leave, given.together, given.hidden)
     command.progress("opening")
     if os.path.isdir(given.source):
-        found = reading.mend_folder(given.source, job, given.encoding, command.progress)
+        reading.mend_folder(given.source, job, given.encoding, command.progress)
     else:
-        found = reading.read_book(opening.open_book(given.source, given.encoding), job, command.progress)
+        reading.read_book(opening.open_book(given.source, given.encoding), job, command.progress)
     if getattr(given, "codes", False):
         from exam_desk import coding
-        coding.add_codes(office, found)
+        coding.add_codes(office, job)
     command.progress("")
-    command.say_lines(line.whole() for line in (
-        found.report.lines if given.all else tables.together(found.report.lines)))
-    return found
+    command.say_lines(line.whole() for line in (job.lines if given.all else tables.together(job.lines)))
+    return job
 
 
 @command.named("""Makes the import files from a workbook, or from files that a spreadsheet broke: read WORKBOOK|FOLDER [NEW]
@@ -77,13 +76,12 @@ def read(parser: command.Parser) -> int:
     default = f"{path}-mended" if os.path.isdir(path) else os.path.splitext(os.path.basename(path))[0]
     target = os.path.abspath(given.new or default)
     refuse_there(target)
-    reading = read_source(command.office(), given)
-    counts = ", ".join(lists.count(reading.report.count(sort), sort) for sort in ("mistake", "change", "note"))
-    if reading.report.count("mistake"):
+    job = read_source(command.office(), given)
+    counts = ", ".join(lists.count(job.count(sort), sort) for sort in ("mistake", "change", "note"))
+    if job.count("mistake"):
         print(f"{counts}: nothing is written")
         return 1
-    for kind, count in write_folder(target, reading, LINES).items():
-        print(f"{kind}: {count}")
+    print(*write_folder(target, job, LINES), sep="\n")
     print(f"{counts}: look through them in {plain(os.path.join(target, LINES))}")
     return 0
 
@@ -112,7 +110,8 @@ def backup(parser: command.Parser) -> None:
 It reads sessions.csv, papers.csv, halls.csv, openings.csv, candidates.csv, arrangements.csv and entries.csv, those that
 are there, and the office's file if there is one. Each mistake is a line: file, line, value, cure. What the program
 takes, though it may be wrong, is a note. Candidates without an access code are counted in one line. What files without
-a mistake would do `office what-if take FOLDER` says. The status is 1 if `office import` would refuse a file.
+a mistake would do `office what-if take FOLDER` says, and whether a limit of the office is passed. The status is 1 if
+`office import` would refuse a file for anything else.
 """)
 def check_files(parser: command.Parser) -> bool:
     from exam_desk import checking, lists
@@ -137,7 +136,7 @@ def codes(parser: command.Parser) -> command.Plan:
     from exam_desk import coding
     parser.add_argument("numbers", metavar="NUMBER", type=typed.number, nargs="+")
     numbers = parser.parse_args().numbers
-    step = coding.recoded(command.existing_office(), numbers)
+    step = coding.other_rows(command.existing_office(), numbers)
     return programs.Change(steps=[step], title=" ".join(["codes", *numbers]))
 
 

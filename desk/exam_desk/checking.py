@@ -7,7 +7,6 @@ from exam_desk import files, lists, mistakes, snapshot
 from exam_desk.office import Office
 
 MOST_SHOWN = 5  # mistakes or notes on one column of a file
-WORKBOOKS = (".xlsx", ".xlsm", ".ods")
 
 
 def lines_on(name: str, found: mistakes.Found, word: str) -> Iterator[str]:
@@ -16,7 +15,7 @@ def lines_on(name: str, found: mistakes.Found, word: str) -> Iterator[str]:
         yield f"{f'{name} line {mistake.line}: ' if name else ''}{word}{mistake.what}: {mistake.text}"
     for column, count in found.counts.items():
         if column == mistakes.NO_CODE:
-            yield f"{name}: {mistakes.no_codes(count, found.kept)}; without them an import refuses the file"
+            yield f"{name}: {mistakes.no_codes(count)}; without them an import refuses the file"
         elif count > found.most:
             yield f"{name}: .. and {lists.count(count - found.most, 'more line')} on {column}"
 
@@ -29,31 +28,21 @@ def office_knows(office: Office) -> mistakes.Known:
         return mistakes.Known(connection)
 
 
-def texts_in(folder: str) -> dict[str, bytes]:
-    """The import files of a folder by kind, in order, as far as an import reads them. `Trouble` at what is no file."""
-    names = os.listdir(folder)
-    return {kind: files.read(os.path.join(folder, name)) for kind in files.HEADERS if (name := f"{kind}.csv") in names}
-
-
 def check_folder(office: Office, folder: str) -> tuple[list[str], Counter[str]]:
     """Looks through the import files of a folder one after the other: each knows what the office has, and what those
-    before it bring. Gives the lines, and how many files, mistakes, empty codes and notes there are. Raises `Trouble` as
-    `texts_in`."""
-    texts, known = texts_in(folder), office_knows(office)
+    before it bring. Gives the lines, and how many files, mistakes, empty codes and notes there are. Raises `Trouble` at
+    what is no file."""
+    names, known = sorted(os.listdir(folder)), office_knows(office)
+    texts = {kind: files.read(os.path.join(folder, f"{kind}.csv")) for kind in files.HEADERS if f"{kind}.csv" in names}
     found = {f"{kind}.csv": mistakes.looked_through(kind, text, known, MOST_SHOWN) for kind, text in texts.items()}
     counts = Counter(files=len(found), mistakes=sum(wrong.count for wrong, _ in found.values()),
                      codes=sum(wrong.counts[mistakes.NO_CODE] for wrong, _ in found.values()),
                      notes=sum(notes.count for _, notes in found.values()))
     lines = [line for name, (wrong, notes) in found.items()
              for line in (*lines_on(name, wrong, ""), *lines_on(name, notes, "NOTE: "))]
-    others = (other(name) for name in sorted(os.listdir(folder)))
-    return [*lines, *(f"NOTE: {line}" for line in others if line)], counts
-
-
-def other(name: str) -> str:
-    """What is said of a name in the folder that is none of the seven; "" where nothing is to be said."""
-    if name.lower().endswith(WORKBOOKS):
-        return f"{name} is a workbook: `office read` makes the files of it"
-    if name.lower().endswith(".csv") and name not in [f"{kind}.csv" for kind in files.HEADERS]:
-        return f"{name} is none of the seven names, so it is not looked at"
-    return ""
+    for name in names:
+        if name.lower().endswith(".csv") and name not in found:
+            lines.append(f"NOTE: {name} is none of the seven names, so it is not looked at")
+        elif name.lower().endswith(files.TABLES) and name not in found:
+            lines.append(f"NOTE: {name} is a workbook: `office read` makes the files of it")
+    return lines, counts

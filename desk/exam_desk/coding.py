@@ -1,33 +1,28 @@
-"""Access codes at random for candidates who have none, or who are to have another; other names for candidates; and the
+"""Access codes at random for candidates who have none, or whose code is lost; other names for candidates; and the
 imports of what was read from a workbook, or from a folder of import files."""
 from __future__ import annotations
 
 import os
 import secrets
-from typing import TYPE_CHECKING, NamedTuple
+from collections.abc import Mapping
+from typing import TYPE_CHECKING
 
 from exam_desk import facts, files, lists, mistakes, snapshot
 from exam_desk.changing import Step
 from exam_desk.office import Office, NoCandidate, Trouble
 
 if TYPE_CHECKING:
-    from exam_desk.workbook.reading import Reading
+    from exam_desk.workbook.tables import Job
 
 LETTERS, DIGITS, LENGTH = "BCDFGHJKMNPQRSTVWXYZ", "23456789", 10
 
 
-class Coded(NamedTuple):
-    """Rows of candidates.csv, each with a code; and how many codes were made."""
-    rows: list[list[str]]
-    made: int
-
-
-def in_office(office: Office) -> dict[str, list[str]]:
-    """The row of each candidate of the office, by number; none where there is no office yet."""
+def in_office(office: Office) -> dict[str, str]:
+    """The access codes of the office, by number; none where there is no office yet."""
     if not os.path.exists(office.path):
         return {}
     with snapshot.rows(office) as connection:
-        return {row[0]: row for row in files.rows_of(connection, "candidates")}
+        return facts.access_codes(connection)
 
 
 def read(text: bytes, path: str) -> list[list[str]]:
@@ -50,57 +45,50 @@ def new_code(taken: set[str]) -> str:
             return code
 
 
-def filled(rows: list[list[str]], known: dict[str, list[str]]) -> Coded:
-    """The rows; each that has no code with that of its number."""
-    codes = {number: code for number, _, code in [*known.values(), *rows] if code}
+def filled(rows: list[list[str]], known: Mapping[str, str]) -> tuple[list[list[str]], int]:
+    """The rows, where each without a code has that of its number, or a new one; and how many are new."""
+    codes = {**known, **{number: code for number, _, code in rows if code}}
     taken, had = set(codes.values()), len(codes)
     for number, _, code in rows:
         if number not in codes:
             codes[number] = new_code(taken)
-    return Coded([[number, name, code or codes[number]] for number, name, code in rows], len(codes) - had)
+    return [[number, name, code or codes[number]] for number, name, code in rows], len(codes) - had
 
 
-def recoded(office: Office, numbers: list[str]) -> Step:
-    """The rows of candidates, each with another code. `Trouble` where nobody has a number."""
-    known = in_office(office)
-    taken = {code for _, _, code in known.values()}
-    for number in numbers:
-        if number not in known:
-            raise NoCandidate(number)
-    rows = [[*known[number][:2], new_code(taken)] for number in dict.fromkeys(numbers)]
-    return Step(("import", "candidates", "rows with new codes"), files.file_of("candidates", rows))
-
-
-def renamed(office: Office, number: str, name: str) -> Step:
-    """A candidate's row with another name, the same code. `Trouble` where nobody has the number, or it is no name."""
-    with snapshot.rows(office) as rows:
-        codes = facts.access_codes(rows)
-    if number not in codes:
-        raise NoCandidate(number)
-    if not files.is_name(name.encode("utf-8", "surrogateescape")):
+def other_rows(office: Office, numbers: list[str], name: str | None = None) -> Step:
+    """The import of candidates with another name and the same code, or without a name with another code. Raises
+    `Trouble` where nobody has a number, or it is no name."""
+    with snapshot.rows(office) as connection:
+        rows = {row[0]: row for row in files.rows_of(connection, "candidates")}
+    if missing := [number for number in numbers if number not in rows]:
+        raise NoCandidate(missing[0])
+    if name is not None and not files.is_name(name.encode("utf-8", "surrogateescape")):
         raise Trouble("a name has 1 to 80 bytes and no control characters")
-    return Step(("import", "candidates", f"name of {number}"),
-                files.file_of("candidates", [[number, name, codes[number]]]))
+    taken = {code for _, _, code in rows.values()}
+    changed = [[number, rows[number][1], new_code(taken)] if name is None else [number, name, rows[number][2]]
+               for number in dict.fromkeys(numbers)]
+    title = f"{'name' if name is not None else 'code'} of {', '.join(numbers)}"
+    return Step(("import", "candidates", title), files.file_of("candidates", changed))
 
 
-def add_codes(office: Office, reading: Reading) -> None:
+def add_codes(office: Office, job: Job) -> None:
     """Gives each candidate who was read without a code one: that of the office for the number, else a new one."""
-    records, report = reading.records.get("candidates", []), reading.report
-    coded = filled([record.fields for record in records], in_office(office))
-    reading.records["candidates"] = [record._replace(fields=row) for record, row in zip(records, coded.rows)]
-    report.lines = [line for line in report.lines if line.what != mistakes.NO_CODE]
-    if coded.made and not report.count("mistake"):
-        report.change(f"{lists.count(coded.made, 'access code')} made")
+    records = job.records.get("candidates", [])
+    rows, made = filled([record.fields for record in records], in_office(office))
+    job.records["candidates"] = [record._replace(fields=row) for record, row in zip(records, rows)]
+    job.lines = [line for line in job.lines if line.what != mistakes.NO_CODE]
+    if made and not job.count("mistake"):
+        job.change(f"{lists.count(made, 'access code')} made")
 
 
-def steps_of(reading: Reading) -> list[Step]:
+def steps_of(job: Job) -> list[Step]:
     """The imports of what was read, in order. `Trouble` at a mistake, as where nothing was read, or an empty code."""
     from exam_desk.workbook.reading import file_parts  # here, since a code or a name needs no workbook
-    if count := reading.report.count("mistake"):
+    if count := job.count("mistake"):
         raise Trouble(f"{lists.count(count, 'mistake')}: nothing is changed")
-    if empty := sum(not record.fields[2] for record in reading.records.get("candidates", [])):
+    if empty := sum(not record.fields[2] for record in job.records.get("candidates", [])):
         raise Trouble(f"{lists.count(empty, 'candidate')} without an access code: nothing is changed; give --codes too "
                       "to make them")
     return [Step(("import", kind, name), text)
-            for kind in files.HEADERS if (rows := [record.fields for record in reading.records.get(kind, [])])
+            for kind in files.HEADERS if (rows := [record.fields for record in job.records.get(kind, [])])
             for name, text, _ in file_parts(kind, rows)]  # several where they are too many for one

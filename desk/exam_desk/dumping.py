@@ -9,7 +9,7 @@ from exam_desk.workbook.reading import new_folder, put_workbook, write_kind
 
 def write_all(connection: sqlite3.Connection, folder: str) -> list[str]:
     """Writes the files and gives the lines that say what is there."""
-    said = [f"{kind}: {write_kind(folder, kind, files.rows_of(connection, kind))}" for kind in files.HEADERS]
+    said = [write_kind(folder, kind, files.rows_of(connection, kind)) for kind in files.HEADERS]
     withdrawn = [f"{number:07} {paper}\n" for number, paper in connection.execute(
         "SELECT number, paper FROM entry WHERE live = 0 ORDER BY number, paper")]
     if withdrawn:

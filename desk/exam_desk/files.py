@@ -39,6 +39,7 @@ BOM = b"\xef\xbb\xbf"
 INPUT = "/dev/stdin"
 INPUTS = "-", INPUT  # what stands for standard input in the place of a file
 PATIENCE = 2  # seconds after which it is said that nothing has come in
+TABLES = (".csv", ".xlsx", ".xlsm", ".ods")  # end the names of files that may hold rows
 NO_UTF_8 = "the letters are no UTF-8: save the file as CSV UTF-8"
 QUERIES = {  # the rows of an office, where masks and clocks are numbers
     "sessions": "SELECT code, day, start AS clock FROM session ORDER BY day, start, code",
@@ -226,11 +227,6 @@ FORMS = {kind: [RIGHT[name] for name in header] for kind, header in HEADERS.item
 
 def is_header(kind: str, record: Record | None) -> bool:
     return record is not None and record.fields == tuple(map(str.encode, HEADERS[kind]))
-
-
-def needed_columns(kind: str) -> set[str]:
-    """The columns without which no row of a kind can be read: its key, and what refers to other kinds."""
-    return {*HEADERS[kind][:KEYS.get(kind, 1)], *REFERENCES[kind]}
 
 
 def key_of(kind: str, fields: tuple[bytes, ...]) -> tuple[bytes, ...]:

@@ -18,7 +18,7 @@ from markupsafe import Markup
 from werkzeug.datastructures import FileStorage
 from werkzeug.wrappers import Response
 
-from exam_desk import backups, coding, dumping, files, mistakes
+from exam_desk import backups, coding, dumping, facts, files, mistakes
 from exam_desk.changing import Step
 from exam_desk.mistakes import Mistake
 from exam_desk.office import Trouble
@@ -27,7 +27,6 @@ from exam_desk.workbook.cells import MOST_CELLS, MOST_FILE, Book
 from exam_desk.workbook.headers import HEADER_WORDS, Given, folded, is_called_list, read_columns
 from exam_desk.workbook.opening import book_of
 from exam_desk.workbook.reading import encoded, read_book, workbook_of
-from exam_desk.workbook.rows import Record
 from exam_desk.workbook.values import Way
 from exam_web.desk import Form, Page, Wrong, archive, at_field, attached, keep, lead, view
 from exam_web.proposals import PLANS, Plan
@@ -58,7 +57,7 @@ class Upload:
     texts: dict[str, bytes] = field(default_factory=dict)  # of the seven files, by kind
     books: list[tuple[str, bytes]] = field(default_factory=list)  # what is none of the seven as it is, until it is read
     given: Mapping[str, Given] | None = None  # what a file of columns says of them
-    report: tables.Report = field(default_factory=tables.Report)  # on the sheets of the books
+    lines: list[tables.Line] = field(default_factory=list)  # on the sheets of the books
     rows: dict[str, list[tuple[bytes, ...]]] = field(default_factory=dict)  # of sheets with mistakes, by kind
     is_called_list: bool = False  # a file, or a sheet of entries, is called withdrawals or reinstatements
     notes: list[Markup] = field(default_factory=list)
@@ -164,7 +163,7 @@ def read_books(upload: Upload) -> None:
     given = {kind: says for kind, says in (upload.given or {}).items()
              if len(upload.books) == 1 or not says.sheet or folded(says.sheet) in there}
     days = {code.decode(): day.decode() for code, day, _ in brought.get("sessions", [])}
-    job = tables.Job(known, upload.way, given, names, leave, hidden=upload.hidden, report=upload.report, days=days)
+    job = tables.Job(known, upload.way, given, names, leave, hidden=upload.hidden, lines=upload.lines, days=days)
     try:
         take_rows(upload, ", ".join(name for name, _ in upload.books), read_book(book, job).records)
     except Trouble as trouble:
@@ -192,11 +191,11 @@ def together(upload: Upload) -> Book:
     return whole
 
 
-def take_rows(upload: Upload, name: str, records: Mapping[str, list[Record]]) -> None:
+def take_rows(upload: Upload, name: str, records: Mapping[str, list[tables.Record]]) -> None:
     """Takes the rows of the sheets where no line is a mistake; else the files know of them, and they are not taken."""
-    wrong = [line for line in upload.report.lines if line.sort == "mistake"]
+    wrong = [line for line in upload.lines if line.sort == "mistake"]
     if not records and not any(line.sheet for line in wrong):
-        upload.report = tables.Report()
+        upload.lines = []
         upload.note(name, text("it has no row below the header of one of the seven files: take the empty "
                                "workbook of the page Files"))
     elif wrong:
@@ -233,13 +232,14 @@ def looked_through(upload: Upload) -> dict[str, Looked]:
 
 def looked_at(kind: str, content: bytes, known: mistakes.Known, entries: tuple[set[tuple[bytes, ...]], ...]) -> Looked:
     """A file beside what is known, which has its rows, too, afterwards; and beside the entries of the office."""
+    codes = dict(known.codes)
     wrong, notes = mistakes.looked_through(kind, content, known)
     faults, rows = list(wrong)[:MOST_CURED], [*below_header(content)]
     lines = {each.line for each in faults}
     fields = {row.line: [part.decode("utf-8", "replace") for part in row.fields] for row in rows if row.line in lines}
     had = max(sum(row.fields in found for row in rows) for found in entries)
-    return Looked(faults, list(notes)[:MOST_SHOWN], fields, wrong.count, len(rows), had,
-                  wrong.counts[mistakes.NO_CODE] - wrong.kept)
+    without = {row.fields[0] for row in rows if kind == "candidates" and row.fields[2:] == (b"",)}
+    return Looked(faults, list(notes)[:MOST_SHOWN], fields, wrong.count, len(rows), had, len(without - codes.keys()))
 
 
 def asks(upload: Upload, looked: Mapping[str, Looked]) -> bool:
@@ -296,7 +296,7 @@ def upload() -> Response:
     way, hidden = Way(choice("dates", DATES), is_command=False), choice("hidden", HIDDEN_ROWS)
     with at_field(("files.page", {}), "files"):
         found = taken(request.files.getlist("files"), way, hidden)
-    if not (found.texts or found.notes or found.report.lines):
+    if not (found.texts or found.notes or found.lines):
         return lead("files.page", text("Choose the files first."), "bad")
     return lead("files.look", key=keep(g.visit.uploads, MOST_UPLOADS, found))
 
@@ -305,9 +305,9 @@ def upload() -> Response:
 def look(key: str) -> str:
     """An upload with its mistakes; it can be imported where none is left in sheets."""
     found: Upload = g.visit.uploads.get(key) or abort(404)
-    looked, of_sheets = looked_through(found), found.report.count("mistake")
+    looked, of_sheets = looked_through(found), sum(line.sort == "mistake" for line in found.lines)
     found.mistakes = sum(each.total for each in looked.values()) + of_sheets
-    lines = [line for line in tables.together(found.report.lines) if line.what != mistakes.NO_CODE]
+    lines = [line for line in tables.together(found.lines) if line.what != mistakes.NO_CODE]
     return render_template("look.html", key=key, upload=found, looked=looked, asks=asks(found, looked), lines=lines,
                            of_sheets=of_sheets, headers=files.HEADERS, words=HEADER_WORDS, most=MOST_SHOWN,
                            most_lines=MOST_LINES)
@@ -365,12 +365,11 @@ def with_codes(upload: Upload, page: Page, form: Form) -> dict[str, bytes]:
     content = upload.texts.get("candidates", b"")
     if all(record.fields[-1] for record in below_header(content)):
         return {}
-    known = {row[0]: row for row in files.rows_of(view().reading.rows, "candidates")}
-    coded = coding.filled(coding.read(content, "candidates.csv"), known)
-    if coded.made and not form.get("codes"):
+    rows, made = coding.filled(coding.read(content, "candidates.csv"), facts.access_codes(view().reading.rows))
+    if made and not form.get("codes"):
         raise Wrong(page, codes=text(
             "without an access code no candidate is imported: tick below that the desk makes them"))
-    return {"candidates": files.file_of("candidates", coded.rows)}
+    return {"candidates": files.file_of("candidates", rows)}
 
 
 def withdraw_list(upload: Upload, what: str, page: Page, done: Callable[[], None]) -> Plan:

@@ -57,7 +57,7 @@ def first_refusal(kind: str, text: bytes, known: mistakes.Known) -> str | None:
             if record.fields[files.HEADERS[kind].index(column)] not in known.keys[table]:
                 return f"refused {UNKNOWN[table]}"
     known.take(kind, [record.fields for record in found])
-    return "refused 20" if known.passed_limit() else None
+    return None
 
 
 class RandomFile:

@@ -112,7 +112,6 @@ def spoiled():
     yield "entries", long[:files.MOST_BYTES - (files.MOST_BYTES - 13) % 13]
     sessions = b"".join(b"S%d,2027-06-07,09:00\n" % place for place in range(398))
     yield "sessions", b"session,date,start\n" + sessions[:sessions.index(b"S397,")]
-    yield "sessions", b"session,date,start\n" + sessions
     halls = b"".join(b"H%d,Hall,-\n" % place for place in range(260))
     yield "halls", b"hall,title,features\n" + halls
 
@@ -145,13 +144,12 @@ class Verdicts(sample.SampleSchool):
         with open(path, encoding="utf-8") as file:
             rows = [line.rpartition(",")[0] + ',""' for line in file.read().splitlines()[1:]]
         self.write("facts/candidates.csv", "\n".join(["number,name,code", *rows, ""]))
-        line = "candidates.csv: 60 candidates have no access code; `office take .. --codes` makes them; without them " \
+        line = "candidates.csv: 60 candidates have no access code; `office take .. --codes` fills them in; without them " \
             "an import refuses the file\n"
         done = self.run_office("check-files", "facts", OFFICE=none)
         self.assertEqual((done.returncode, done.stderr), (1, ""))
         self.assertEqual(done.stdout, f"{line}7 files, 0 mistakes, 0 notes\n")
-        self.assertIn("candidates.csv: 60 candidates have no access code; `office take ..` fills in 60 from the office; "
-                      "without", self.run_office("check-files", "facts").stdout)
+        self.assertIn(line, self.run_office("check-files", "facts").stdout)
         self.assertIn("refused 1 record 1 column 3\n", self.refused("import", "candidates", path))
         self.assertIn("candidates!C2:C61: code (empty) became the one that the office has; 60 times\n",
                       self.office("take", "facts", "--yes"))
@@ -172,7 +170,7 @@ class Verdicts(sample.SampleSchool):
         rows[3] = rows[3].replace('"000', '"', 1)
         self.write("facts/candidates.csv", "\n".join(["number,name,code", *rows, ""]))
         said = self.run_office("check-files", "facts", OFFICE=os.path.join(self.folder, "no.db")).stdout
-        self.assertIn("candidates.csv line 5: number '1051': leading zeros lost? 0001051 (seven", said)
+        self.assertIn("candidates.csv line 5: number '1051': write 0001051 (seven", said)
         self.assertIn(line, said)
         self.assertRegex(said, "\n7 files, [1-9][0-9]* mistakes?, 0 notes\n$")
 
@@ -193,35 +191,32 @@ class Words(unittest.TestCase):
         return [mistake.text for mistake in found], [note.text for note in notes]
 
     def test_every_mistake_is_told(self):
-        text = b"number;name;code\n1000;Ada Lin;wk3degzdpc\n0001017;;F54ERF5DHQ\n"
+        text = b"number,name,code\n1000,Ada Lin,wk3degzdpc\n0001017,,F54ERF5DHQ\n"
         self.assertEqual(self.mistakes_in("candidates", text)[0], [
-            "semicolons part the columns: save it with commas", "write WK3DEGZDPC (8 to 16 of A-Z and 0-9)",
-            "leading zeros lost? 0001000 (seven digits; format the column as text)", "1 to 80 bytes; it has 0"])
+            "write WK3DEGZDPC (8 to 16 of A-Z and 0-9)",
+            "write 0001000 (seven digits; format the column as text)", "1 to 80 bytes; it has 0"])
 
     def test_lost_zeros_are_told_of_a_row_that_is_there_with_them(self):
         found, notes = self.mistakes_in("entries", b"number,paper\n0001000,MA-1\n1000,MA-1\n0001000,MA-1\n")
-        self.assertEqual(found, ["leading zeros lost? 0001000 (seven digits; format the column as text)"])
+        self.assertEqual(found, ["write 0001000 (seven digits; format the column as text)"])
         self.assertEqual(notes.count("the same as line 2; it counts once"), 2)
 
-    def test_a_missing_column_is_named_and_hides_no_other_mistake(self):
-        text = b"number;name\n1000;Ada Lin\n0001017;\n0001034\n"
-        self.assertEqual(self.mistakes_in("candidates", text), ([
-            "semicolons part the columns: save it with commas",
-            "the column code is missing: add it (leave it empty; `office take .. --codes` fills it)",
-            "leading zeros lost? 0001000 (seven digits; format the column as text)", "1 to 80 bytes; it has 0",
-            "1 in place of 3 fields; values are missing"], []))
-        self.assertEqual(self.mistakes_in("candidates", b" Number,,name,code\n1000,,Ada,CODE0001\n"), ([
-            "columns without a name: delete them",
-            "leading zeros lost? 0001000 (seven digits; format the column as text)"], []))
-        self.assertEqual(self.mistakes_in("openings", b"session,desks,until,reserved\nS1,1,12:00,no\n")[0],
-                         ["the first line must be session,hall,desks,until,reserved; no such header is found"])
+    def test_another_header_is_shown_beside_the_right_one(self):
+        """Nothing of such a file is looked at: `office mend` reads it."""
+        for text, line in ((b"number;name;code\n1000;Ada;x\n", "number;name;code"), (b"\n number,name\n1000,Ada\n", "number,name"),
+                           (files.BOM + b"Number,Name,Code\r\n", "Number,Name,Code"), (b"", ""), (b"sep=,\nnumber,name,code\n", "sep=,"),
+                           (b"session,date,start\n", "session,date,start")):
+            self.assertEqual(self.mistakes_in("candidates", text), ([self.no_header("number,name,code", line)], []))
+
+    def no_header(self, header, line):
+        return f"the first line must be {header}, and is '{line}'; `office mend` reads files with other headers, commas or letters"
 
     def test_rows_that_are_wrong_as_a_whole(self):
         for row, said in (
                 (b"0001000,Lin, Ada,WK3DEGZDPC", "4 in place of 3 fields; put a value with a comma in double quotes"),
                 (b"0001000,Ada", "2 in place of 3 fields; values are missing"),
                 (b",,", "an empty row of the spreadsheet: delete it"),
-                (b",,,", "4 in place of 3 fields; an empty row of the spreadsheet: delete it"),
+                (b",,,", "an empty row of the spreadsheet: delete it"),
                 (b'0001000,"Ada', "2 in place of 3 fields; a quote is not closed")):
             self.assertEqual(self.mistakes_in("candidates", b"number,name,code\n" + row), ([said], []), row)
 
@@ -251,14 +246,8 @@ class Words(unittest.TestCase):
         found, notes = mistakes.looked_through("candidates", text, mistakes.Known())
         self.assertEqual(([*found], [*notes], found.count, bool(found)), ([], [], 0, True))
         self.assertEqual([*checking.lines_on("c.csv", found, "")], [
-            "c.csv: 2 candidates have no access code; `office take .. --codes` makes them; without them an import "
+            "c.csv: 2 candidates have no access code; `office take .. --codes` fills them in; without them an import "
             "refuses the file"])
-        known = mistakes.Known()
-        known.codes[b"0001017"] = b"CODE0001"
-        found, _ = mistakes.looked_through("candidates", text, known)
-        self.assertEqual([*checking.lines_on("c.csv", found, "")], [
-            "c.csv: 2 candidates have no access code; `office take ..` fills in 1 from the office, and with --codes makes "
-            "the others; without them an import refuses the file"])
         for empty in (b" ", "\u00a0\u200b".encode()):
             cure = mistakes.cure("code", empty)
             self.assertEqual(cure, ("it holds nothing that can be seen: empty it, and a code can be made", ""))
@@ -276,13 +265,9 @@ class Words(unittest.TestCase):
         self.assertEqual(found, [])
         self.assertEqual(notes, [
             "looks like letters that were read in a wrong encoding",
-            "the same access code as 0000003, and the same name: one candidate under two numbers?",
-            "the same access code as 0000002, and the same name: one candidate under two numbers?",
-            "the same as line 3; it counts once",
+            "2 candidates have this access code", "2 candidates have this access code", "the same as line 3; it counts once",
             "may be what a spreadsheet made of a code such as 1E5, or will make of it",
-            "has a space at an end", "holds a left double quotation mark: is a plain one meant?",
-            "holds a no-break space: is a plain one meant?",
-            "holds a right double quotation mark: is a plain one meant?"])
+            "has a space at an end, or a sign that no keyboard writes: is it meant?"])
 
     def test_one_access_code_for_all(self):
         """As where a spreadsheet filled it down: a note on each, and no row is compared with each other one."""
@@ -290,17 +275,14 @@ class Words(unittest.TestCase):
         began = time.process_time()
         found, notes = mistakes.looked_through("candidates", text, mistakes.Known())
         self.assertLess(time.process_time() - began, 10)
-        first, second, *others = (note.text for note in notes)
-        self.assertEqual((found.count, len(others), first, second, others[-1]), (
-            0, 19_998, "the same access code as 0000002, 0000003, 0000004",
-            "the same access code as 0000001, 0000003, 0000004",
-            "the same access code as 0000001, 0000002, 0000003"))
+        self.assertEqual((found.count, len(notes.shown), {note.text for note in notes}), (
+            0, 20_000, {"20000 candidates have this access code"}))
 
     def test_a_code_that_its_owner_gives_up_is_no_shared_one(self):
         known = mistakes.Known()
         known.take("candidates", [(b"0000001", b"Ada", b"CODE0001")])
         text = b"number,name,code\n0000002,Bo,CODE0001\n"
-        self.assertEqual(self.mistakes_in("candidates", text, known)[1], ["the same access code as 0000001"])
+        self.assertEqual(self.mistakes_in("candidates", text, known)[1], ["2 candidates have this access code"])
         text += b"0000001,Ada,CODE0009\n"
         self.assertEqual(self.mistakes_in("candidates", text, known), ([], []))
 
@@ -310,19 +292,15 @@ class Words(unittest.TestCase):
             "no candidates are known, so these are not compared", "no papers are known, so these are not compared"]))
         known = mistakes.Known()
         self.assertEqual(self.mistakes_in("papers", b"no header\n", known)[0],
-                         ["the first line must be paper,title,session,minutes,requires; no such header is found"])
+                         [self.no_header("paper,title,session,minutes,requires", "no header")])
         self.assertEqual(self.mistakes_in("entries", text, known), ([], [
-            "no candidates are known, so these are not compared",
-            "papers.csv could not be read whole, so these are not compared"]))
+            "no candidates are known, so these are not compared", "no papers are known, so these are not compared"]))
         self.assertEqual(self.mistakes_in("entries", b"number,paper\n"), ([], []))
 
     def test_no_bytes_end_it_otherwise(self):
         same = b"number,name,code\n100\351,Ada,ABCDEFGH\n0000002,Ada,ABCDEFGH\n"
         self.assertEqual(self.mistakes_in("candidates", same), (["seven digits; format the column as text"], [
-            "the same access code as 0000002, and the same name: one candidate under two numbers?",
-            "the same access code as 100\ufffd, and the same name: one candidate under two numbers?"]))
-        halls = b"session,hall,desks,until,reserved\n" + b"".join(b"\xff,H%d,1,12:00,no\n" % place for place in range(257))
-        self.assertIn("257 open halls in session \ufffd; a session holds 256", self.mistakes_in("openings", halls)[0])
+            "2 candidates have this access code", "2 candidates have this access code"]))
 
     def test_a_long_file_is_not_read(self):
         with mock.patch("exam_desk.files.MOST_BYTES", 20), self.assertRaisesRegex(Trouble, "a.csv: is longer than 20 bytes"):
@@ -337,12 +315,9 @@ class Words(unittest.TestCase):
         self.assertEqual(list(files.records(b'a;"b;c";', b";")), [(1, (b"a", b"b;c", b""), True)])
 
     def test_a_long_file_of_utf_16(self):
-        """Each letter has two bytes there, and three in UTF-8: more than a field of an import can have."""
         text = b"\xff\xfe" + "\u6f22".encode("utf-16-le") * 2_000_000
         found, _ = mistakes.looked_through("halls", text, mistakes.Known())
-        self.assertEqual([each.text for each in found], [
-            "saved as Unicode text (UTF-16): save it as CSV UTF-8",
-            "the first line must be hall,title,features; no such header is found"])
+        self.assertEqual([each.text.partition(", and")[0] for each in found], ["the first line must be hall,title,features"])
 
     def test_too_many_mistakes_end_it(self):
         found, _ = mistakes.looked_through("entries", b"number,paper\n" + b"a\n" * 100_001, known := mistakes.Known(), 5)

@@ -99,8 +99,8 @@ class Listed(test_changing.Changing):
                 (GOOD + "10x0,MA-1\n", "line 4: number '10x0': "), (GOOD + "9999,MA-1\n", "line 4: number '0009999': "),
                 (GOOD + "=1+1,<b>\u202e\n", "line 4: number '=1+1': ", "line 4: paper '<b>?': "),
                 (GOOD + "0001000\n", "line 4: row: 1 in place of 2 fields"), (GOOD + '"0001000,MA-1\n', "a quote is not closed"),
-                ("paper,number\nMA-1,0001000\n", "the first line must be number,paper"), ("", "the file is empty"),
-                (GOOD.replace(",", ";"), "semicolons"), (b"number,paper\n\xff\x00,MA-1\n", "line 2: number ")):
+                ("paper,number\nMA-1,0001000\n", "the first line must be number,paper"), ("", "and is ''"),
+                (GOOD.replace(",", ";"), "and is 'number;paper'"), (b"number,paper\n\xff\x00,MA-1\n", "line 2: number ")):
             done = self.run_list(text)
             self.assertEqual((done.returncode, done.stdout), (1, ""), text)
             for words in (*said, "office: nothing is changed\n"):

@@ -225,19 +225,23 @@ class Lists(sample.SampleSchool):
         self.assertIn("is there already", self.refused("dump", folder))
 
     def test_codes(self):
-        """Those of the file and of the office stay, none is made twice, and one number has one code."""
-        rows = [["0000001", "Lin", ""], ["0000002", "=1+1", "ABCDEFGH"], ["0000001", "Lin", ""], ["0001051", "Di", ""]]
-        coded = coding.filled(rows, {"0001051": ["0001051", "Di Berg", sample.CODE]})
-        first, kept, again, known = (code for _, _, code in coded.rows)
-        self.assertEqual((kept, again, known, coded.made), ("ABCDEFGH", first, sample.CODE, 1))
+        rows = [["0000001", 'Lin, "Ada"', ""], ["0000002", "=1+1", "ABCDEFGH"], ["0000001", 'Lin, "Ada"', ""], ["0000003", "Bo", ""],
+                ["0000004", "Cy", ""]]
+        found, made = coding.filled(rows, {"0000002": "OFFICE02", "0000004": "OFFICE04"})
+        self.assertEqual(([row[:2] for row in found], made), ([row[:2] for row in rows], 2))
+        first, own, again, other, known = (row[2] for row in found)
+        self.assertEqual((own, again, known, len({first, own, other})), ("ABCDEFGH", first, "OFFICE04", 3))
         self.assertRegex(first, "^[B-Z][B-Z2-9]{9}$")
         with mock.patch("secrets.choice", side_effect="B" * 10 + "C" * 10):
             self.assertEqual(coding.new_code({"B" * 10}), "C" * 10)
-        for text, said in (("number,name\n", "line 1 must be: number,name,code"),
-                           ("number,name,code\n1,Bo,\n", "line 2 is wrong; `office check-files` says how"),
-                           ("number,name,code\n0000001,Bo,abc\n", "line 2 is wrong; `office check-files` says how")):
-            with self.assertRaisesRegex(Trouble, said):
+
+    def test_rows_without_codes_are_those_that_an_import_takes(self):
+        header, check = "line 1 must be: number,name,code", "line 2 is wrong; `office check-files` says how"
+        for text, said in [("number,name\n", header), ("number,name,code\n1,Bo,\n", check),
+                           ("number,name,code\n0000001,Bo,abc\n", check), ("", header)]:
+            with self.assertRaisesRegex(Trouble, f"c.csv: {re.escape(said)}"):
                 coding.read(text.encode(), "c.csv")
+        self.assertEqual(coding.read(b"number,name,code\n0000001,Bo,\n", "c.csv"), [["0000001", "Bo", ""]])
 
     def test_a_lost_code(self):
         """No file with a code is left, twice in a row; the name stays, the old code is told, and the copy has a name."""

@@ -47,7 +47,7 @@ class Words(sample.SampleSchool):
         self.assertEqual(self.refused("import", "candidates", path).split("\n"), [
             "refused 1 record 2 column 1",
             "  a value has the wrong form; correct it and import the whole file again",
-            "  candidates.csv line 4: number '1000': leading zeros lost? 0001000 (seven digits; format the column as "
+            "  candidates.csv line 4: number '1000': write 0001000 (seven digits; format the column as "
             "text)",
             "  candidates.csv line 4: row: line 3 has the same key and other contents: keep one", ""])
 
@@ -57,7 +57,7 @@ class Words(sample.SampleSchool):
             path = self.write("sessions.csv", f"session,date,start\n{row}\n")
             self.assertIn(f"  sessions.csv line 2: {text}\n", self.refused("import", "sessions", path))
         path = self.write("candidates.csv", "number,name,code\n0001000,Ada,\n")
-        self.assertIn("  candidates.csv: 1 candidate has no access code; `office take ..` fills in 1 from the office; without",
+        self.assertIn("  candidates.csv: 1 candidate has no access code; `office take .. --codes` fills them in; without",
                       self.refused("import", "candidates", path))
 
     def test_a_file_that_is_not_there_is_named_with_its_folder(self):
@@ -79,7 +79,7 @@ class Words(sample.SampleSchool):
                              "added 0 changed 0 same 1\n")
             self.assertIn("0 of 1 row", self.run_office("reinstate", "--list", path, stdin="number,paper\n1000,MA-1\n").stdout)
             self.assertIn(">10B<", self.run_office("slips", "--order", path, stdin="number,group\n1000,10B\n").stdout)
-        self.assertIn("  stdin line 2: number '1000': leading zeros lost?",
+        self.assertIn("  stdin line 2: number '1000': write 0001000",
                       self.refused("import", "entries", "/dev/stdin", stdin="number,paper\n1000,MA-1\n"))
 
     def test_a_reason_from_standard_input(self):
@@ -145,10 +145,10 @@ class Words(sample.SampleSchool):
             self.assertIn(f"  candidates.csv line 2: row: {text}", lines)
 
     def test_what_is_wrong_with_a_header(self):
-        for text, said in (("number;paper\n", "semicolons part the columns: save it with commas"),
-                           ("nummer,paper\n", "the first line must be number,paper; no such header is found")):
-            path = self.write("entries.csv", text)
-            self.assertIn(f"  entries.csv line 1: file: {said}\n", self.refused("import", "entries", path))
+        for line in ("number;paper", "nummer,paper"):
+            path = self.write("entries.csv", f"{line}\n")
+            self.assertIn(f"  entries.csv line 1: file: the first line must be number,paper, and is '{line}'; `office mend` ",
+                          self.refused("import", "entries", path))
 
     def test_an_unknown_reference_is_named(self):
         path = self.write("entries.csv", "number,paper\n0001000,MA-1\n0001000,MA-9\n0001017,MA-9\n")
@@ -165,10 +165,10 @@ class Words(sample.SampleSchool):
 
     def test_arrangements_in_whose_place_a_grant_is_in_force(self):
         path = self.write("needs.csv", "number,needs,extra\n0001051,-,50\n")
-        for session, outcome, grant in (("MON-AM", "granted", "a grant for MON-AM"), ("TUE-AM", "standing", "a standing grant")):
+        for session, outcome in (("MON-AM", "granted"), ("TUE-AM", "standing")):
             self.office("lodge", "1051", session, "arrangement", "screen", "25", "")
             self.office("decide", "1051", "D1" if session == "MON-AM" else "D2", outcome, "")
-            self.assertIn(f"  needs.csv line 2: NOTE: number '0001051': {grant} is in force for this candidate in its "
+            self.assertIn("  needs.csv line 2: NOTE: number '0001051': a granted appeal is in force for this candidate in its "
                           "place\n", self.run_office("what-if", "import", "arrangements", path).stderr)
 
     def test_a_repeated_key_is_shown(self):

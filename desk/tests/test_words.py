@@ -49,11 +49,9 @@ class Words(sample.SampleSchool):
     def test_an_empty_code(self):
         self.write("new.csv", "number,name,code\n0001051,Ann,\n")
         said = self.refused("import", "candidates", "new.csv")
-        self.assertIn("`office take ..` fills in 1 from the office", said)
+        self.assertIn("`office take .. --codes` fills them in", said)
         code = self.row()[1]
-        os.mkdir(os.path.join(self.folder, "new"))
-        self.write("new/candidates.csv", "number,name,code\n0001051,Ann,\n")
-        self.office("take", "new", "--yes")
+        self.office("take", "new.csv", "--codes", "--yes")
         self.assertEqual(self.row(), ("Ann", code))
 
 

@@ -29,9 +29,9 @@ from exam_desk.office import Trouble  # noqa: E402
 from exam_desk.workbook import cells, child, opening  # noqa: E402
 from exam_desk.workbook.cells import Sheet, packed, unpacked  # noqa: E402
 from exam_desk.workbook.headers import read_columns  # noqa: E402
-from exam_desk.workbook.reading import (Reading, mend_folder, put_workbook, read_book, workbook_of, write_folder,
+from exam_desk.workbook.reading import (mend_folder, put_workbook, read_book, workbook_of, write_folder,
                                         write_kind)  # noqa: E402
-from exam_desk.workbook.tables import Job, Report, together  # noqa: E402
+from exam_desk.workbook.tables import Job, together  # noqa: E402
 
 AT_A_TIME = 4
 
@@ -170,7 +170,7 @@ class Limits(unittest.TestCase):
     def test_what_is_no_workbook_is_refused(self) -> None:
         letter = odd.changed(rawbook.ods(""), "content.xml", "office:spreadsheet", "office:text")
         self.refused("it is a document of another kind", letter)
-        self.refused("a part of it is broken .ExpatError", self.with_sheet("<worksheet><sheetData>"))
+        self.refused("it is broken or cut short .ExpatError", self.with_sheet("<worksheet><sheetData>"))
         with mock.patch.object(opening, "MOST_FILE", 9), self.assertRaisesRegex(Trouble, "it is larger than"):
             opening.book_of(b"number,nam", "candidates.csv")
         with self.assertRaisesRegex(Trouble, "cannot be read: it is no file"):
@@ -185,11 +185,11 @@ class Limits(unittest.TestCase):
 class Columns(unittest.TestCase):
     def test_a_file_of_columns_that_says_something_else_is_refused(self) -> None:
         for text, said in (('dates = "first"', "dates is day-first or month-first"), ("halls = 1", "halls is none of the"),
-                           ('[halls]\nfeatures = { always = "big" }', "features: write { always = "),
-                           ('[halls]\nhall = ["A", "B"]', "only names and titles have several"),
+                           ('[halls]\nfeatures = { always = "big" }', "features: write a header"),
+                           ('[halls]\nhall = ["A", "B"]', "for names and titles also several"),
                            ('[halls]\nsheet = { always = "A" }', "sheet: write a header"), ("words = 1", "write a table such"),
-                           ("[words.room]\na = 'b'", "room is no column"), ("[words]\nhall = 1", "hall is no column"),
-                           ("[words.start]\nnoon = 12", "12 is no value of start"),
+                           ("[words.room]\na = 'b'", "room is no column"), ("[words]\nhall = 1", "write a table such"),
+                           ("[words.start]\nnoon = 12", "write a table such"),
                            ("[words.start]\nnoon = '12'", "'12' is no value of start")):
             with self.subTest(text), self.assertRaises(Trouble) as raised:
                 read_columns("c.toml", text.encode())
@@ -201,16 +201,16 @@ class Told(unittest.TestCase):
     """Lines that say the same stand together, and nothing that somebody must look at is lost."""
 
     def setUp(self) -> None:
-        self.report, self.sheet = Report(), Sheet("Form 1")
+        self.job, self.sheet = Job(Known()), Sheet("Form 1")
 
     def told(self) -> list[str]:
-        return [line.whole() for line in together(self.report.lines)]
+        return [line.whole() for line in together(self.job.lines)]
 
     def test_one_line_has_the_count_and_the_places(self) -> None:
         for row in [2, 3, 4, 6, 8, 9, 11, 13, 15, 16]:
-            self.report.change(f"number {row} became 000000{row} (zeros in front)", self.sheet, row, 1, "numberzeros")
-            self.report.mistake(f"extra '{row}.5': a whole number", self.sheet, row, 3, "extra a whole number")
-        self.report.note("is not read", self.sheet)
+            self.job.change(f"number {row} became 000000{row} (zeros in front)", self.sheet, row, 1, "numberzeros")
+            self.job.mistake(f"extra '{row}.5': a whole number", self.sheet, row, 3, "extra a whole number")
+        self.job.note("is not read", self.sheet)
         self.assertEqual(self.told(), [
             "'Form 1'!A2:A4, A6, A8:A9, A11, A13 and 2 more: number 2 became 0000002 (zeros in front); 10 such changes",
             "'Form 1': NOTE: is not read",
@@ -218,8 +218,8 @@ class Told(unittest.TestCase):
 
     def test_few_texts_have_a_line_each_and_so_has_each_date(self) -> None:
         for row in range(2, 62):
-            self.report.change(f"start {row % 3}:00 became 0{row % 3}:00", self.sheet, row, 2, "start ")
-            self.report.change(f"date {row // 2}", self.sheet, row, 3, "date")
+            self.job.change(f"start {row % 3}:00 became 0{row % 3}:00", self.sheet, row, 2, "start ")
+            self.job.change(f"date {row // 2}", self.sheet, row, 3, "date")
         found = self.told()
         self.assertEqual(len(found), 3 + 30)
         self.assertEqual(found[0], "'Form 1'!B2, B5, B8, B11, B14 and 15 more: start 2:00 became 02:00; 20 times")
@@ -231,7 +231,7 @@ class Told(unittest.TestCase):
         numbers = [*(f"{number}" for number in range(11, 15)), *(f"'{number}" for number in range(21, 25))]
         book = rawbook.xlsx(cases.sheet("Sessions", cases.SESSIONS, *([f"S{day[:2]}", day, "09:00"] for day in days)),
                             cases.sheet("Candidates", cases.CANDIDATES, *([each, "Ada", f"CODE00{each[-2:]}"] for each in numbers)))
-        told = [line.whole() for line in together(read_book(unpacked(child.read(book)), Job(Known())).report.lines)]
+        told = [line.whole() for line in together(read_book(unpacked(child.read(book)), Job(Known())).lines)]
         self.assertEqual([f"Sessions!B2: date {days[0]} became 2027-06-14 (Monday, 14 June 2027, as there is no month 14)",
                           *(f"Sessions!B{row}" for row in range(3, 7)), "Candidates!A2:A5", "Candidates!A6:A9"],
                          [told[0], *(line.partition(":")[0] for line in told[1:5]), *(line.rpartition(": ")[0] for line in told[5:7])])
@@ -241,11 +241,11 @@ class Told(unittest.TestCase):
         for sheet, column, text in [(self.sheet, 1, "is missing"), (other, 1, "is missing"), (other, 2, "is missing"),
                                     (other, 2, "8 digits; a number has seven"), (other, 2, "a date, not a time")]:
             for row in (2, 3):
-                self.report.mistake(f"number {row}: {text}", sheet, row, column, f"number {text}")
+                self.job.mistake(f"number {row}: {text}", sheet, row, column, f"number {text}")
         for year in range(2021, 2026):
-            self.report.mistake(f"there is no sheet {year}")
+            self.job.mistake(f"there is no sheet {year}")
         self.assertEqual(len(self.told()), 2 * 5 + 5)
-        self.assertEqual(self.report.count("mistake"), 2 * 5 + 5)
+        self.assertEqual(self.job.count("mistake"), 2 * 5 + 5)
 
 
 class Mending(unittest.TestCase):
@@ -254,16 +254,16 @@ class Mending(unittest.TestCase):
         with tempfile.TemporaryDirectory() as folder:
             for name in ("entries.csv", "entries-2.csv"):
                 pathlib.Path(folder, name).write_text("number,paper\n0000001,MA-1\n", "utf-8")
-            reading = mend_folder(folder, Job(Known()), None, lambda text: None)
-        self.assertEqual((2, 0), (len(reading.records["entries"]), reading.report.count("mistake")))
+            job = mend_folder(folder, Job(Known()), None, lambda text: None)
+        self.assertEqual((2, 0), (len(job.records["entries"]), job.count("mistake")))
         self.assertEqual([], Job(Known()).together)
 
     def test_the_code_of_the_office_stands_where_none_is(self) -> None:
         known = Known()
         known.codes = {b"0000001": b"OFFICE01", b"0000002": b"OFFICE02"}
         book = rawbook.xlsx(cases.candidates(["0000001", "Ada", "CODE0001"], ["0000002", "Bo", None], ["0000003", "Cy", None]))
-        reading = read_book(unpacked(child.read(book)), Job(known))
-        self.assertEqual(["CODE0001", "OFFICE02", ""], [record.fields[2] for record in reading.records["candidates"]])
+        job = read_book(unpacked(child.read(book)), Job(known))
+        self.assertEqual(["CODE0001", "OFFICE02", ""], [record.fields[2] for record in job.records["candidates"]])
 
     def test_a_folder_without_one_of_the_files_is_refused(self) -> None:
         with tempfile.TemporaryDirectory() as folder, self.assertRaisesRegex(Trouble, f"{folder}: none of the seven files"):
@@ -273,28 +273,28 @@ class Mending(unittest.TestCase):
 
 class Writing(unittest.TestCase):
     def test_a_folder_is_made_whole_or_not_at_all(self) -> None:
-        reading = Reading({"candidates": []}, Report())
+        job = Job(Known())
         with tempfile.TemporaryDirectory() as folder:
             target = os.path.join(folder, "new")
-            reading.report.mistake("wrong")
+            job.mistake("wrong")
             with self.assertRaises(Trouble):
-                write_folder(target, reading, "read.txt")
+                write_folder(target, job, "read.txt")
             self.assertEqual([], os.listdir(folder))
             os.mkdir(target)
             with self.assertRaisesRegex(Trouble, "is there already"):
-                write_folder(target, Reading({}, Report()), "read.txt")
+                write_folder(target, Job(Known()), "read.txt")
             self.assertEqual([], os.listdir(target))
             with self.assertRaisesRegex(Trouble, "must end in .xlsx"):
                 put_workbook(os.path.join(folder, "new.ods"))
             with self.assertRaisesRegex(Trouble, "the folder .*/none is not there"):
-                write_folder(os.path.join(folder, "none", "new"), Reading({}, Report()), "read.txt")
+                write_folder(os.path.join(folder, "none", "new"), Job(Known()), "read.txt")
 
 
     def test_a_second_file_of_a_kind_is_named(self):
         rows = [[f"{place:07}", "MA-1"] for place in range(5)]
         with tempfile.TemporaryDirectory() as folder, mock.patch("exam_desk.files.MOST_BYTES", 60):
-            self.assertEqual("5, in entries.csv and entries-2.csv and entries-3.csv", write_kind(folder, "entries", rows))
-            self.assertEqual("1", write_kind(folder, "halls", [["A", "B", "-"]]))
+            self.assertEqual("entries: 5, in entries.csv and entries-2.csv and entries-3.csv", write_kind(folder, "entries", rows))
+            self.assertEqual("halls: 1", write_kind(folder, "halls", [["A", "B", "-"]]))
             self.assertEqual(4, len(os.listdir(folder)))
 
     @needs_openpyxl
@@ -407,7 +407,7 @@ class Commands(sample.SampleSchool):
         told = done.stdout.splitlines()
         for wanted in ("Candidates!A12:A71: number 11 became 0000011 (zeros in front); 60 such changes",
                        "Candidates!C2:C71: NOTE: 70 candidates have no access code; "
-                       "`office take .. --codes` makes them",
+                       "`office take .. --codes` fills them in",
                        "Candidates!A2:A11: MISTAKE: number '12345678': 8 digits; a number has seven; 10 times",
                        "Entries!B2:B21: MISTAKE: paper 'XX-9': is not among the papers; 20 times"):
             self.assertEqual(told.count(wanted), 1, (wanted, told))
@@ -432,22 +432,6 @@ class Commands(sample.SampleSchool):
         self.assertEqual([line for line in told if "it counts once" in line],
                          ["Entries!4: NOTE: the same as Entries!2; it counts once",
                           "Entries!6: NOTE: the same as Entries!5; it counts once"])
-
-    def test_a_list_of_entries_that_count_says_what_withdraws_them(self) -> None:
-        """Where half of its rows count or more, and nothing else comes with them."""
-        self.office("dump", "facts")
-        had = self.rows("facts", "entries")
-        papers, numbers = ([row[0] for row in self.rows("facts", kind)] for kind in ("papers", "candidates"))
-        new = [[number, paper] for number in numbers for paper in papers if [number, paper] not in had]
-        for rows, said in ((had[:2], "2 of 2"), (had[:2] + new[:1], "2 of 3"), (had[:1] + new[1:2], "1 of 2"),
-                           (had[:1] + new[2:4], "")):
-            pathlib.Path(self.folder, "leave.csv").write_text(
-                "".join(",".join(row) + "\n" for row in [["number", "paper"], *rows]), "utf-8")
-            done = self.run_office("take", "leave.csv", "--yes")
-            self.assertEqual([line for line in done.stdout.splitlines() if "withdraw --list" in line],
-                             [f"NOTE: {said} entries count already; to withdraw them: office withdraw --list FILE"]
-                             if said else [])
-        self.assertNotIn("withdraw --list", self.run_office("take", "facts", "--yes").stdout)
 
     @needs_openpyxl
     def test_the_office_fills_codes_and_knows_papers(self) -> None:

@@ -39,15 +39,13 @@ def read(data: bytes) -> bytes:
             else:
                 from exam_desk.workbook.xlsx import read_xlsx as reader
             return packed(reader(archive)).encode()
-    except (zipfile.BadZipFile, zlib.error, OSError, EOFError, NotImplementedError) as fault:
-        why = f"it is broken or cut short: {fault}"
-    except (ExpatError, ValueError, LookupError, ArithmeticError) as fault:
-        why = f"a part of it is broken ({type(fault).__name__}: {fault}): {OPEN_AND_SAVE}"
     except Trouble as trouble:
-        why = trouble.sentence
+        return json.dumps(trouble.sentence).encode()
     except MemoryError:
-        why = f"it asks for more than {MOST_MEMORY >> 30} GB: it is no school's workbook"
-    return json.dumps(why).encode()
+        return json.dumps(f"it asks for more than {MOST_MEMORY >> 30} GB: it is no school's workbook").encode()
+    except (zipfile.BadZipFile, zlib.error, OSError, EOFError, NotImplementedError, ExpatError, ValueError, LookupError,
+            ArithmeticError) as fault:
+        return json.dumps(f"it is broken or cut short ({type(fault).__name__}: {fault}): {OPEN_AND_SAVE}").encode()
 
 
 def write(data: bytes) -> bytes:

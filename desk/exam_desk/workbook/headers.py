@@ -52,7 +52,7 @@ FIRST_NAME = "firstname firstnames givenname forename vorname".split()
 LAST_NAME = "lastname surname familyname nachname".split()
 LISTS = re.compile("withdr|reinstat|abmeld|rücktritt")  # begin the names of lists of entries that do not bring them in
 OF_PEOPLE = {"name", *WORDS["name"].split(), *FIRST_NAME, *LAST_NAME}
-MARKED = {"papers": "requires", "halls": "features", "arrangements": "needs"}  # may be columns of crosses
+MARKED = {"papers": "requires", "halls": "features", "arrangements": "needs", "entries": "paper"}  # or crosses
 
 
 class Given(NamedTuple):
@@ -125,8 +125,10 @@ def possible_headers(kind: str, sheet: Sheet, given: Given, *names: str) -> list
 
 
 def find_header(kind: str, sheet: Sheet, given: Given, whole: bool = False) -> Header | None:
-    """The header of a kind among the first rows of a sheet; `whole` asks for every column of the kind."""
-    needed = set(files.HEADERS[kind]) - {"code"} if whole else files.needed_columns(kind)
+    """The header of a kind among the first rows of a sheet; `whole` asks for every column of the kind, where else its
+    key is enough, with what refers to other kinds."""
+    key = files.HEADERS[kind][:files.KEYS.get(kind, 1)]
+    needed = set(files.HEADERS[kind]) - {"code"} if whole else {*key, *files.REFERENCES[kind]}
     found = [header for header in possible_headers(kind, sheet, given)
              if header.columns and needed <= (have := {*header.columns, *given.fixed}) and len(have) > 1]
     return max(found, key=lambda header: len(header.columns)) if found else None
@@ -141,14 +143,15 @@ def read_columns(path: str, content: bytes | None = None) -> tuple[dict[str, Giv
         found = tomllib.loads((files.read(path) if content is None else content).decode("utf-8-sig"))
         words, dates = found.pop("words", {}), found.pop("dates", "")
         given = {kind: given_of(kind, said) for kind, said in found.items()}
-        taught = words_of(words)
         if dates not in ("", "day-first", "month-first"):
             raise Trouble("dates is day-first or month-first")
+        return given, Way(dates, {name: words_of(name, meant) for name, meant in words.items()})
     except UnicodeDecodeError as fault:
         raise Trouble("its letters are no UTF-8: save it as UTF-8", path) from fault
+    except AttributeError as fault:
+        raise Trouble("words: write a table such as [words.features], with words and what they mean", path) from fault
     except (tomllib.TOMLDecodeError, RecursionError, Trouble) as fault:
         raise Trouble(str(fault), path) from fault
-    return given, Way(dates, taught)
 
 
 def given_of(kind: str, said: object) -> Given:
@@ -156,30 +159,26 @@ def given_of(kind: str, said: object) -> Given:
         raise Trouble(f"{kind} is none of the seven kinds, nor `words` nor `dates`")
     headers, fixed = dict[str, list[str]](), dict[str, str]()
     for name, value in said.items():
-        texts = value if isinstance(value, list) else [value]
-        if name != "sheet" and name not in files.HEADERS[kind]:
+        texts = value if isinstance(value, list) and name in mistakes.NAMES else [value]
+        always = value.get("always") if isinstance(value, dict) else None
+        if name not in ("sheet", *files.HEADERS[kind]):
             raise Trouble(f"[{kind}] has {name}; its columns are {', '.join(files.HEADERS[kind])}")
-        if isinstance(value, dict) and name != "sheet":
-            fixed[name] = str(value.get("always", ""))
-            if set(value) != {"always"} or not mistakes.RIGHT[name](fixed[name].encode()):
-                raise Trouble(f'[{kind}] {name}: write {{ always = ".." }}, with {mistakes.CURES[name]}')
-        elif texts and all(isinstance(text, str) and text.strip() for text in texts) and \
-                (value is not texts or name in ("name", "title")):
+        if texts and all(isinstance(text, str) and text.strip() for text in texts):
             headers[name] = texts
+        elif isinstance(always, str) and name != "sheet" and mistakes.RIGHT[name](always.encode()):
+            fixed[name] = always
         else:
-            raise Trouble(f'[{kind}] {name}: write a header such as "Pupil ID"; only names and titles have several')
+            raise Trouble(f'[{kind}] {name}: write a header such as "Pupil ID", for names and titles also several, or '
+                          f'{{ always = ".." }} with {mistakes.CURES.get(name, "a value")}')
     [sheet] = headers.pop("sheet", [""])
     return Given(headers, fixed, sheet)
 
 
-def words_of(words: object) -> dict[str, dict[str, str]]:
-    """What words in small letters stand for, by column."""
-    if not isinstance(words, dict):
-        raise Trouble("words: write a table such as [words.features]")
-    for name, meant in words.items():
-        if name not in mistakes.RIGHT or not isinstance(meant, dict):
-            raise Trouble(f"[words.{name}]: {name} is no column of the import files")
-        for value in meant.values():
-            if not isinstance(value, str) or not mistakes.RIGHT[name](value.encode()):
-                raise Trouble(f"[words.{name}] {value!r} is no value of {name} ({mistakes.CURES[name]})")
-    return {name: {word.lower(): value for word, value in meant.items()} for name, meant in words.items()}
+def words_of(name: str, meant: Mapping[str, str]) -> dict[str, str]:
+    """What words in small letters stand for in a column."""
+    if name not in mistakes.RIGHT:
+        raise Trouble(f"[words.{name}]: {name} is no column of the import files")
+    for value in meant.values():
+        if not mistakes.RIGHT[name](value.encode()):
+            raise Trouble(f"[words.{name}] {value!r} is no value of {name} ({mistakes.CURES[name]})")
+    return {word.lower(): value for word, value in meant.items()}

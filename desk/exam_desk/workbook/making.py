@@ -29,6 +29,8 @@ MEANS = {
     "features": "What the hall has", "desks": "How many desks", "until": "How long the hall is open",
     "reserved": "yes: only for candidates with needs or extra time", "needs": "What the candidate needs of a hall",
     "extra": "Extra time in percent"}
+SETS = f'"-,{",".join(FEATURES)}"'
+OFFERED = {"reserved": '"yes,no"', "requires": SETS, "features": SETS, "needs": SETS}
 WIDTHS = {"title": 32, "name": 32, "requires": 30, "features": 30, "needs": 30}
 LAST_ROW = {"entries": 200_001}  # as far as lists and formats reach
 MOST_ERROR = 250  # letters of what a spreadsheet says of a value that is not on a list
@@ -42,52 +44,41 @@ def made(rows: Mapping[str, Sequence[Sequence[str]]] | None) -> bytes:
     book = Workbook()
     book.remove(book.active)
     for kind, [first, *more] in EXAMPLES.items():
-        texts = [[EXAMPLE + first, *more]] if rows is None else rows.get(kind, [])
-        fill(book.create_sheet(kind.capitalize()), kind, texts, **(GREY if rows is None else {}))
+        sheet = book.create_sheet(kind.capitalize())
+        put_header(sheet, kind)
+        for number, row in enumerate([[EXAMPLE + first, *more]] if rows is None else rows.get(kind, []), 2):
+            put_row(sheet, number, row, GREY if rows is None else {})
     out = io.BytesIO()
     book.save(out)
     return out.getvalue()
 
 
-def fill(sheet: Any, kind: str, rows: Sequence[Sequence[str]], **looks: Any) -> None:
+def put_header(sheet: Any, kind: str) -> None:
+    """The header, which stays in sight, with comments, and the lists and formats of the columns."""
     sheet.freeze_panes = "A2"
-    for place, name in enumerate(files.HEADERS[kind]):
-        letter = get_column_letter(place + 1)
+    put_row(sheet, 1, files.HEADERS[kind], HEAD)
+    for place, name in enumerate(files.HEADERS[kind], 1):
+        letter, cure = get_column_letter(place), mistakes.CURES[name]
         sheet.column_dimensions[letter].width = WIDTHS.get(name, 14)
         sheet.column_dimensions[letter].number_format = TEXT
-        comment = Comment(f"{MEANS[name]}: {mistakes.CURES[name]}", "office", width=320, height=110)
-        put(sheet, 1, place + 1, name, comment=comment, **HEAD)
-        if rule := list_of(kind, name):
+        sheet.cell(1, place).comment = Comment(f"{MEANS[name]}: {cure}", "office", width=320, height=110)
+        source, offered = files.REFERENCES[kind].get(name), OFFERED.get(name)
+        if source:
+            offered = f"{source.capitalize()}!$A$2:$A${LAST_ROW.get(source, 20_001)}"
+        if offered:  # of features several may be joined by +, so their list is a hint
+            rule = DataValidation(type="list", formula1=offered, allow_blank=True, errorTitle="examoffice",
+                                  showErrorMessage=offered != SETS, error=f"not on the list: {cure}"[:MOST_ERROR])
             rule.add(f"{letter}2:{letter}{LAST_ROW.get(kind, 20_001)}")
             sheet.add_data_validation(rule)
-    for number, row in enumerate(rows, 2):
-        for place, text in enumerate(row, 1):
-            put(sheet, number, place, text, **looks)
 
 
-def list_of(kind: str, name: str) -> Any:
-    """What a column may be chosen from; None where it is typed."""
-    source = files.REFERENCES[kind].get(name)
-    takes_features = mistakes.CURES[name] == mistakes.FEATURES_CURE
-    if source:
-        offered = f"{source.capitalize()}!$A$2:$A${mistakes.LIMITS[source] + 1}"
-    elif name == "reserved":
-        offered = '"yes,no"'
-    elif takes_features:
-        offered = f'"-,{",".join(FEATURES)}"'
-    else:
-        return None
-    return DataValidation(type="list", formula1=offered, allow_blank=True, errorTitle="examoffice",
-                          showErrorMessage=not takes_features,  # several may be joined by +, so the list is a hint
-                          error=f"not on the list: {mistakes.CURES[name]}"[:MOST_ERROR])
-
-
-def put(sheet: Any, row: int, column: int, text: str, **looks: Any) -> None:
-    """A text cell, whatever the text looks like: openpyxl would make a formula of =1+1 and an error of #N/A, and a
+def put_row(sheet: Any, row: int, texts: Sequence[str], looks: Mapping[str, Any]) -> None:
+    """Text cells, whatever the texts look like: openpyxl would make a formula of =1+1 and an error of #N/A, and a
     spreadsheet would make a letter of _x0041_."""
-    cell = sheet.cell(row, column)
-    text = re.sub("_(?=x[0-9A-Fa-f]{4}_)", "_x005F_", text)
-    cell.value = re.sub("[\ufffe\uffff]", lambda match: f"_x{ord(match[0]):04X}_", text)  # no letters of XML
-    cell.data_type = "s"
-    for name, look in {"number_format": TEXT, **looks}.items():
-        setattr(cell, name, look)
+    for column, text in enumerate(texts, 1):
+        cell = sheet.cell(row, column)
+        text = re.sub("_(?=x[0-9A-Fa-f]{4}_)", "_x005F_", text)
+        cell.value = re.sub("[\ufffe\uffff]", lambda match: f"_x{ord(match[0]):04X}_", text)  # no letters of XML
+        cell.data_type, cell.number_format = "s", TEXT
+        for name, look in looks.items():
+            setattr(cell, name, look)

@@ -10,24 +10,16 @@ LAST_SERIAL = 2_950_000  # a day in the year 9976
 MOST_NUMBER = 10 ** 15  # a spreadsheet keeps fifteen digits
 LONG_NUMBER = 10 ** 11  # from here on the format General shows a power of ten
 WINDOWS, MACINTOSH = datetime.datetime(1899, 12, 30), datetime.datetime(1904, 1, 1)  # the day 0
-MACHINE_DATE = "m/d/yy?"  # the date that each machine shows in its own way
 GENERAL = "General"
-BUILT_IN = {  # formats by number; each machine has a currency of its own, and shows it or not
+BUILT_IN = {  # formats by number; each machine has dates and a currency of its own
     **dict(enumerate([GENERAL, "0", "0.00", "#,##0", "#,##0.00"])), 9: "0%", 10: "0.00%", 11: "0.00E+00", 12: "# ?/?",
-    **dict.fromkeys((5, 6, 37, 38, 41, 42), "#,##0"), **dict.fromkeys((7, 8, 39, 40, 43, 44), "#,##0.00"),
-    13: "# ??/??", 14: MACHINE_DATE, 15: "d-mmm-yy", 16: "d-mmm", 17: "mmm-yy", 18: "h:mm AM/PM",
-    19: "h:mm:ss AM/PM", 20: "h:mm", 21: "h:mm:ss", 22: MACHINE_DATE + " h:mm", 32: "h:mm", 33: "h:mm",
-    **dict.fromkeys((*range(27, 32), *range(34, 37), *range(50, 59)), MACHINE_DATE),
-    45: "mm:ss", 46: "[h]:mm:ss", 47: "mmss.0", 48: "##0.0E+0", 49: "@"}
-PAINTED = {  # the words of a format of dates, in python's; n is a minute
-    "yyyy": "%Y", "yy": "%y", "mmmm": "%B", "mmm": "%b", "mm": "%m", "m": "%-m", "dddd": "%A", "ddd": "%a", "dd": "%d",
-    "d": "%-d", "hh": "%H", "h": "%-H", "nn": "%M", "n": "%-M", "ss": "%S", "s": "%-S", "am/pm": "%p", ".": ".",
-    ",": ","}
+    13: "# ??/??", 46: "[h]:mm:ss", 48: "##0.0E+0", 49: "@", **dict.fromkeys((5, 6, 37, 38, 41, 42), "#,##0"),
+    **dict.fromkeys((7, 8, 39, 40, 43, 44), "#,##0.00"),
+    **dict.fromkeys((*range(14, 23), *range(27, 37), 45, 47, *range(50, 59)), "m/d/yy h:mm")}
+AS_THE_FILES = {"yyyy-mm-dd": "%Y-%m-%d", "hh:mm": "%H:%M"}  # formats of moments that show what the files have
 NUMBER = re.compile(r"\s*[+-]?([0-9]+\.?[0-9]*|\.[0-9]+)([eE][+-]?[0-9]+)?\s*")
-TOKEN = re.compile(r'"[^"]*"|\\.|_.|\*.|\[[^\]]*\]|General|AM/PM|yy\?|([ymdhs])\1*|[0#?]+(?:[0#?,.]*[0#?])?,*|.', re.I)
-LOCALE = re.compile(r"\[\$[^\]-]*-([0-9A-F]+)\]", re.I)  # digits, a calendar, a country in six bits, a language in ten
-COUNTRY, ENGLISH = 0xfc00, 9
-OTHER_DIGITS = 2 << 24  # the first number of a language and its digits where these are of another script
+TOKEN = re.compile(r'"[^"]*"|\\.|_.|\*.|\[[^\]]*\]|General|AM/PM|([ymdhs])\1*|[0#?]+(?:[0#?,.]*[0#?])?,*|.', re.I)
+OF_ITS_OWN = re.compile(r"\[([<>=]|dbnum|\$[^\]-]*-[0-9a-f]{5,})", re.I)  # conditions, digits of other scripts
 DIGITS = re.compile(r"(?P<group>#,)?#*(?P<zeros>0*)(?:\.(?P<places>0+))?")
 
 
@@ -66,9 +58,10 @@ def moment_cell(number: decimal.Decimal, form: str, kind: str, epoch: datetime.d
     if not 0 <= number < LAST_SERIAL:
         return Cell("number", str(number), "")
     when = epoch + datetime.timedelta(seconds=seconds)
+    shown = when.strftime(AS_THE_FILES.get(form.partition(";")[0].replace("\\", "").lower(), ""))
     if number >= 1:
-        return Cell("date", whole_day(when.isoformat()), painted(form, when))
-    return Cell("time", clock_text(seconds), painted(form, when))
+        return Cell("date", whole_day(when.isoformat()), shown)
+    return Cell("time", clock_text(seconds), shown)
 
 
 def clock_text(seconds: int) -> str:
@@ -89,7 +82,7 @@ def kind_of(form: str) -> str:
     bare = "".join(token for token in tokens if token[0] not in '"\\_*[').lower()
     if "%" in bare:
         return "percent"
-    if "general" in bare or bare == "@" or re.search("[0#?]", re.sub(r"s[.,]0+", "s", bare).replace("yy?", "yy")):
+    if "general" in bare or bare == "@" or re.search("[0#?]", re.sub(r"s[.,]0+", "s", bare)):
         return "number"
     if any(re.fullmatch(r"\[(h+|m+|s+)\]", token, re.I) for token in tokens):
         return "elapsed"
@@ -99,7 +92,7 @@ def kind_of(form: str) -> str:
 def shown_number(form: str, number: decimal.Decimal) -> str:
     """How a number is shown, '' where nothing is; raises `Unknown`."""
     parts = sections(form)
-    if locale_of(form) >= OTHER_DIGITS or any(re.match(r"\[[<>=]", token) for part in parts for token in part):
+    if OF_ITS_OWN.search(form):
         raise Unknown(form)
     numeric = parts[:3] if "@" not in parts[0] else [[GENERAL]]
     place = 0 if number > 0 else 1 if number < 0 else 2
@@ -148,25 +141,3 @@ def text_cell(text: str, form: str) -> Cell:
     except Unknown:
         return Cell("text", text, "")
     return Cell("text" if shown else "unseen", text, shown)
-
-
-def locale_of(form: str) -> int:
-    """The number of the language and of the digits of a number format."""
-    match = LOCALE.search(form)
-    return OTHER_DIGITS if "[dbnum" in form.lower() else int(match[1], 16) if match else 0
-
-
-def painted(form: str, when: datetime.datetime) -> str:
-    """How a date is shown, where the format is plain; '' where that is not known."""
-    words = [token if token[0] in '"\\_*' else token.lower() for token in sections(form)[0]]
-    if locale_of(form) & ~COUNTRY not in (0, ENGLISH):
-        return ""
-    known = PAINTED | ({"h": "%-I", "hh": "%I"} if "am/pm" in words else {})
-    letters = "".join(word[0] for word in words)
-    for near in ("h[^hsdy]*", "[^hsdy]*s"):  # behind hours and before seconds a month is a minute
-        letters = re.sub(near, lambda match: match[0].replace("m", "n"), letters)
-    words = [word.replace("m", letter) if word in ("m", "mm") else word for word, letter in zip(words, letters)]
-    try:
-        return "".join(when.strftime(known[word]) if word in known else literal(word) for word in words).strip()
-    except Unknown:
-        return ""

@@ -21,6 +21,7 @@ OLD = b"\xd0\xcf\x11\xe0\xa1\xb1\x1a\xe1"  # of Microsoft's compound files
 OLD_FORM = "it is of the old form .xls: open it in a spreadsheet and save it as .xlsx or .ods"
 NO_UTF_8 = "its letters are no UTF-8: save it as CSV UTF-8, or say --encoding cp1252 if a Windows program of Western " \
     "Europe wrote it"
+UTF_16 = b"\xff\xfe", b"\xfe\xff"
 OTHERS = (b"<html", b"<!doctype", b"<table", b"<?xml", b"<meta", b"%pdf", b"{\\rtf")
 ALSO = {"xlsx": ("xlsx", "xlsm", "xltx", "xltm"), "ods": ("ods", "ots"), "csv": ("csv", "txt", "tsv")}
 
@@ -57,8 +58,7 @@ def is_zip(data: bytes, encoding: str | None) -> bool:
     if data.startswith((b"PK\3\4", b"PK\5\6")):
         return True
     start = data[:1000].lstrip(b"\xef\xbb\xbf \r\n\t").lower()
-    has_zeros = encoding is None and b"\0" in data[:1000]
-    if start.startswith(OTHERS) or has_zeros and data[:2] not in (b"\xff\xfe", b"\xfe\xff"):
+    if start.startswith(OTHERS) or encoding is None and b"\0" in data[:1000] and not data.startswith(UTF_16):
         raise Trouble(NO_WORKBOOK)
     return False
 
@@ -81,25 +81,8 @@ def ask_child(what: str, data: bytes) -> bytes:
     return done.stdout
 
 
-def decoded(data: bytes, encoding: str | None) -> str:
-    """The letters of a CSV file, without half ones."""
-    if encoding is None:
-        encoding = "utf-16" if data[:2] in (b"\xff\xfe", b"\xfe\xff") else "utf-8-sig"
-    try:
-        text = data.decode(encoding)
-        text.encode()
-        return text
-    except UnicodeError:
-        raise Trouble(NO_UTF_8) from None
-    except LookupError:
-        raise Trouble(f"there is no encoding {encoding}") from None
-
-
 def comma_of(lines: list[str]) -> str:
-    """What parts the columns of a CSV file: what its first line says, or what stands as often in most of the first
-    lines."""
-    if lines and (match := re.fullmatch(r"sep=([\t !#-~])", lines[0])):
-        return match[1]
+    """What parts the columns of a CSV file: what stands as often in most of the first lines."""
     bare = [re.sub('"[^"]*"', "", line) for line in lines]
     counts = {mark: Counter(line.count(mark) for line in bare if mark in line) for mark in ",;\t|"}
     return max(counts, key=lambda mark: max(((often, many) for many, often in counts[mark].items()), default=(0, 0)))
@@ -107,12 +90,10 @@ def comma_of(lines: list[str]) -> str:
 
 def read_csv(data: bytes, name: str, encoding: str | None = None) -> Book:
     """A file of one sheet whose cells are texts."""
-    text, budget = decoded(data, encoding), Budget()
-    lines = [line for line in text.splitlines()[:20] if line.strip()]
-    comma, sheet = comma_of(lines), Sheet(name)
-    if lines and lines[0] == f"sep={comma}":
-        text = text.replace(lines[0], "", 1)
+    budget, sheet = Budget(), Sheet(name)
     try:
+        text = data.decode(encoding or ("utf-16" if data.startswith(UTF_16) else "utf-8-sig"))
+        comma = comma_of([line for line in text.splitlines()[:20] if line.strip()])
         for record in files.records(text.encode(), comma.encode()):
             if not record.closed:
                 raise Trouble(f"a quote is not closed in line {record.line}")
@@ -121,6 +102,10 @@ def read_csv(data: bytes, name: str, encoding: str | None = None) -> Book:
                     budget.keep(shown)
                     told = re.sub(r'\A="([^"]*)"\Z', r"\1", shown)  # some programs write ="0000017" for the zeros
                     sheet.rows.setdefault(record.line, {})[column] = Cell("text", told, shown)
+    except UnicodeError:
+        raise Trouble(NO_UTF_8) from None
+    except LookupError:
+        raise Trouble(f"there is no encoding {encoding}") from None
     except csv.Error:
         raise Trouble(f"one of its fields has more than {files.MOST_BYTES:,} bytes: is a quote not closed?") from None
     named = "tabs" if comma == "\t" else comma

@@ -1,109 +1,97 @@
 """From a workbook, or from import files that a spreadsheet broke, to the rows of the seven kinds, which are checked as
 the files of an import are; and to a new folder of these files."""
 import contextlib
-import itertools
 import json
 import os
 import re
 import shutil
 import tempfile
 from collections.abc import Iterable, Iterator, Mapping, Sequence
-from typing import NamedTuple
 
 from exam_desk import files, mistakes
 from exam_desk.office import Trouble
 from exam_desk.workbook.cells import Book, Cell, Sheet, place_name
 from exam_desk.workbook.headers import KINDS, WITHIN, Header, find_header, folded, possible_headers
 from exam_desk.workbook.opening import ask_child, open_book
-from exam_desk.workbook.rows import Record, Table
-from exam_desk.workbook.tables import Job, Line, Progress, Report
+from exam_desk.workbook.rows import Table
+from exam_desk.workbook.tables import Job, Line, Progress, Record
 from exam_desk.words import plain
 
 FIRST = 2  # the line of a file with its first row
 Rows = Mapping[str, Sequence[Sequence[str]]]  # by kind
 
 
-class Reading(NamedTuple):
-    """What was read: of each kind the records, and the lines. Where a line is a mistake nothing may be written."""
-
-    records: dict[str, list[Record]]
-    report: Report
-
-
-def mend_folder(folder: str, job: Job, encoding: str | None, progress: Progress) -> Reading:
+def mend_folder(folder: str, job: Job, encoding: str | None, progress: Progress) -> Job:
     """Reads the import files of a folder by the rules of a workbook's cells, each as a sheet of its name."""
-    book, together = Book("csv", [], []), list[str]()
+    book = Book("csv", [], [])
     for name in sorted(os.listdir(folder), key=lambda name: (len(name), name)):
         if match := re.fullmatch(rf"({'|'.join(files.HEADERS)})(-[0-9]+)?\.csv", name):
             found = open_book(os.path.join(folder, name), encoding)
             book.sheets.extend(found.sheets)
             book.notes.extend(f"{name}: {note}" for note in found.notes)
-            together.append(match[1])
-        elif name.lower().endswith((".csv", ".xlsx", ".xlsm", ".ods")):
+            job.together = [*job.together, match[1]]
+        elif name.lower().endswith(files.TABLES):
             book.notes.append(f"{name} is none of the seven files; it is not read")
     if not book.sheets:
         raise Trouble("none of the seven files is there", folder)
-    job.together = [*job.together, *together]
     return read_book(book, job, progress)
 
 
-def read_book(book: Book, job: Job, progress: Progress = lambda text: None) -> Reading:
-    """Finds the tables of a workbook, reads their rows, and checks what comes out as the files of an import."""
+def read_book(book: Book, job: Job, progress: Progress = lambda text: None) -> Job:
+    """Finds the tables of a workbook, reads their rows, and checks what comes out as the files of an import. Where a
+    line is a mistake nothing may be written."""
     for text in book.notes:
-        job.report.note(text, what=text.rpartition(": ")[2])
-    records = read_sheets(job, usable_sheets(job, book), progress)
-    if not records and not job.report.count("mistake"):
+        job.note(text, what=text.rpartition(": ")[2])
+    read_sheets(job, usable_sheets(job, book), progress)
+    if not job.records and not job.count("mistake"):
         where = ": see `office template`" if job.way.is_command else ""
-        job.report.mistake(f"no sheet has rows of one of the seven kinds{where}")
-    keep_codes(job, records.get("candidates", []))
-    if [*records] == ["entries"] and job.way.is_command:  # it may be a list of withdrawals, which no import carries out
-        fields = [tuple(map(encoded, record.fields)) for record in records["entries"]]
-        if 2 * (count := sum(entry in job.known.entries for entry in fields)) >= len(fields):
-            job.report.note(f"{count} of {len(fields)} entries count already; "
-                            "to withdraw them: office withdraw --list FILE")
-    check_files(job, records, progress)
-    return Reading(records, job.report)
+        job.mistake(f"no sheet has rows of one of the seven kinds{where}")
+    keep_codes(job)
+    check_files(job, progress)
+    return job
 
 
-def read_sheets(job: Job, sheets: list[Sheet], progress: Progress) -> dict[str, list[Record]]:
-    """The records of each kind that has some."""
-    records: dict[str, list[Record]] = {}
+def read_sheets(job: Job, sheets: list[Sheet], progress: Progress) -> None:
+    """Reads the records of each kind that has some."""
     tables = [table for sheet in sheets for table in tables_of(job, sheet)]
     for kind in files.HEADERS:
         progress(kind)
-        for table in chosen(job, kind, [table for table in tables if table.kind == kind]):
-            records.setdefault(kind, []).extend(table.records())
+        found = chosen(job, kind, [table for table in tables if table.kind == kind])
+        if records := [record for table in found for record in table.records()]:
+            job.records[kind] = records
         if kind == "sessions":
-            job.days |= {record.fields[0]: record.fields[1] for record in records.get(kind, [])}
-    return {kind: found for kind, found in records.items() if found}
+            job.days |= {record.fields[0]: record.fields[1] for record in records}
 
 
 # -- which sheet is what
 
 def usable_sheets(job: Job, book: Book) -> list[Sheet]:
-    """The sheets that are to be read; of the others a line says why they are not. Of a hidden one that is the only one
-    of its kind the officer must say."""
-    wanted, leave = job.sheets, job.leave
-    names = [sheet.name for sheet in book.sheets]
+    """The sheets that are to be read; of the others a line says why they are not."""
+    names, usable, hidden = [sheet.name for sheet in book.sheets], list[Sheet](), list[Sheet]()
     said = [given.sheet for given in job.given.values() if given.sheet and book.form != "csv"]
-    for name in [*(wanted or []), *leave, *said]:
-        if name not in names and (name not in said or folded(name) not in map(folded, names)):
-            job.report.mistake(f"there is no sheet {name}; there are: {', '.join(names)}")
-    usable, hidden = list[Sheet](), list[Sheet]()
+    missing = [name for name in [*(job.sheets or []), *job.leave] if name not in names]
+    missing += [name for name in said if folded(name) not in map(folded, names)]
+    if missing:
+        job.mistake(f"there is no sheet {', '.join(missing)}; there are: {', '.join(names)}")
     for sheet in book.sheets:
-        if wanted is not None and sheet.name not in wanted or sheet.name in leave:
-            job.report.note("is not read, as you said", sheet)
+        if job.sheets is not None and sheet.name not in job.sheets or sheet.name in job.leave:
+            job.note("is not read, as you said", sheet)
         elif sheet.rows:
-            (hidden if sheet.hidden and wanted is None else usable).append(sheet)
+            (hidden if sheet.hidden and job.sheets is None else usable).append(sheet)
     job.papers = named_papers(job, usable)
+    tell_hidden(job, usable, hidden)
+    return usable
+
+
+def tell_hidden(job: Job, usable: list[Sheet], hidden: list[Sheet]) -> None:
+    """A hidden sheet is left; of one that is the only one of its kind the officer must say."""
     shown = {kind for sheet in usable for kind in headers_of(job, sheet)} if hidden else set()
     for sheet in hidden:
         if alone := headers_of(job, sheet).keys() - shown:
-            job.report.mistake(f"is hidden: show it if it has the {' or '.join(sorted(alone))}"
-                               + job.way.or_say("which sheets are to be read with --sheet"), sheet)
+            job.mistake(f"is hidden: show it if it has the {' or '.join(sorted(alone))}"
+                        + job.way.or_say("which sheets are to be read with --sheet"), sheet)
         else:
-            job.report.note("is hidden, so it is not read", sheet)
-    return usable
+            job.note("is hidden, so it is not read", sheet)
 
 
 def may_be(job: Job, kind: str, sheet: Sheet) -> bool:
@@ -122,6 +110,8 @@ def headers_of(job: Job, sheet: Sheet) -> dict[str, Header | None]:
     """The kinds that a sheet may be, each with its header if that is found."""
     if kinds := kinds_by_name(job, sheet):
         return {kind: find_header(kind, sheet, job.of_kind(kind)) for kind in kinds}
+    if folded(sheet.name) in KINDS:
+        return {}  # the file of columns says another sheet of the kind
     told = [kind for kind, said in job.given.items() if said.headers and not said.sheet]
     if named := {kind: header for kind in told if (header := find_header(kind, sheet, job.given[kind]))}:
         return {**named}  # the officer has named their headers
@@ -138,34 +128,29 @@ def named_papers(job: Job, sheets: list[Sheet]) -> set[str]:
     """The codes of papers that the office has or a sheet of papers names, before anything is read."""
     codes = {code.decode() for code in job.known.keys["papers"] or ()} | {job.of_kind("papers").fixed.get("paper", "")}
     for sheet in sheets:
-        header = headers_of(job, sheet).get("papers")
-        if header and "paper" in header.columns:
+        if (header := headers_of(job, sheet).get("papers")) and "paper" in header.columns:
             [place, *_] = header.columns["paper"]
-            codes |= {job.said("paper", cells[place]) for row, cells in sheet.rows.items()
-                      if row > header.row and place in cells}
+            codes |= {job.said("paper", cells.get(place)) for row, cells in sheet.rows.items() if row > header.row}
     return codes - {""}
 
 
 def tables_of(job: Job, sheet: Sheet) -> list[Table]:
     """The tables of a sheet, which the file of columns may read as several kinds."""
-    kinds, by_name, named = headers_of(job, sheet), kinds_by_name(job, sheet), KINDS.get(folded(sheet.name))
-    if named and not by_name:
-        job.report.note(f"is not read: the file of columns says another sheet of {named}", sheet)
-        return []
+    kinds, is_named = headers_of(job, sheet), bool(kinds_by_name(job, sheet))
     if len(kinds) > 1 and not all(kind in job.given for kind in kinds):
-        job.report.mistake(f"could be {' or '.join(kinds)}: call the sheet, or the CSV file, so", sheet)
+        job.mistake(f"could be {' or '.join(kinds)}: call the sheet, or the CSV file, so", sheet)
         return []
-    if kinds and not by_name and not {*kinds} & {*job.together, *job.given}:
-        job.report.note(f"is read as {[*kinds][0]}, by its header", sheet)
-    found = {kind: Table(job, kind, sheet, header) for kind, header in kinds.items() if header}
-    for kind in [kind for kind in kinds if kind not in found and kind != "entries"]:
+    if kinds and not is_named and not {*kinds} & {*job.together, *job.given}:
+        job.note(f"is read as {[*kinds][0]}, by its header", sheet)
+    found = [Table(job, kind, sheet, header) for kind, header in kinds.items() if header]
+    if not kinds or "entries" in kinds and not kinds["entries"]:
+        found += list_table(job, sheet, is_named)
+    for kind in [kind for kind, header in kinds.items() if not header and kind != "entries"]:
         nearest = max(possible_headers(kind, sheet, job.of_kind(kind)), key=lambda header: len(header.columns))
         lacking = ", ".join(name for name in files.HEADERS[kind] if name not in nearest.columns)
         text = f"none of the first {WITHIN} rows is a header of {kind}; this one lacks {lacking}"
-        job.report.mistake(text, sheet, nearest.row)
-    if not kinds or "entries" in kinds and "entries" not in found:
-        return [*found.values(), *list_table(job, sheet, "entries" in by_name)]
-    return [*found.values()]
+        job.mistake(text, sheet, nearest.row)
+    return found
 
 
 def list_table(job: Job, sheet: Sheet, is_named: bool) -> list[Table]:
@@ -178,68 +163,69 @@ def list_table(job: Job, sheet: Sheet, is_named: bool) -> list[Table]:
     if table and (paper or table.marks):
         return [table]
     if is_named or paper:
-        text = "bears the name of a paper, but no row is a header with the column number" if paper else \
-            "no row is a header with number and paper, or with number and the codes of papers"
         cure = "" if job.papers else "; no papers are known: put them into the workbook, or import them first"
-        job.report.mistake(text + cure, sheet, min(sheet.rows))
+        job.mistake("no row is a header with number and paper, with number alone on a sheet that bears the code of a "
+                    f"paper, or with number and the codes of papers{cure}", sheet, min(sheet.rows))
     else:
-        job.report.note("is not read: no row is the header of one of the seven kinds", sheet)
+        job.note("is not read: no row is the header of one of the seven kinds", sheet)
     return []
 
 
 def chosen(job: Job, kind: str, tables: list[Table]) -> list[Table]:
     """The tables of a kind that are read. That more than one has rows is a mistake, unless they are one list."""
-    filled = [table for table in tables if max(table.sheet.rows) > table.header.row] or tables[:1]
+    filled = [table for table in tables if table.below] or tables[:1]
     for table in [table for table in tables if table not in filled]:
         table.note(None, None, f"has no {kind}; it is not read")
     if len(filled) < 2 or kind in job.together or all(table.paper for table in filled):
         return filled
     names = " and ".join(place_name(table.sheet) for table in filled)
     options = job.way.or_say(f"--together {kind} to read them as one list, or --leave NAME")
-    job.report.mistake(f"{names} could both be the {kind}: keep one{options}", filled[1].sheet)
+    job.mistake(f"{names} could both be the {kind}: keep one{options}", filled[1].sheet)
     return []
 
 
 # -- what `office check-files` would say of the files
 
-def keep_codes(job: Job, candidates: list[Record]) -> None:
+def keep_codes(job: Job) -> None:
     """A candidate without a code keeps the one that the office has. One line tells of all others of a sheet."""
-    have = {number.decode(): code.decode() for number, code in job.known.codes.items()}
-    for record in candidates:
-        if not record.fields[2] and record.fields[0] in have:
-            record.fields[2] = have[record.fields[0]]
-            job.report.change("code (empty) became the one that the office has", record.sheet, record.row,
-                              record.columns[2])
-    without = [record for record in candidates if not record.fields[2]]
-    for _, records in itertools.groupby(without, lambda record: record.sheet.name):
-        found = list(records)
-        job.report.lines.append(Line("note", mistakes.no_codes(len(found)), found[0].sheet,
-                                     [record.row for record in found], found[0].columns[2], mistakes.NO_CODE))
+    without: dict[str, list[Record]] = {}
+    for record in job.records.get("candidates", []):
+        code = job.known.codes.get(encoded(record.fields[0]))
+        if code and not record.fields[2]:
+            record.fields[2] = code.decode()
+            job.change("code (empty) became the one that the office has", record.sheet, record.row, record.columns[2])
+        elif not record.fields[2]:
+            without.setdefault(record.sheet.name, []).append(record)
+    job.lines += [Line("note", mistakes.no_codes(len(found)), found[0].sheet, [record.row for record in found],
+                       found[0].columns[2], mistakes.NO_CODE) for found in without.values()]
 
 
-def check_files(job: Job, records: Mapping[str, list[Record]], progress: Progress) -> None:
-    """Adds to the report what `office check-files` would say of the files, on the cells from which their values come,
-    unless a line on the cell says it."""
-    said = {line.place for line in job.report.lines if line.sort == "mistake"}
-    for kind, rows in records.items():
+def check_files(job: Job, progress: Progress) -> None:
+    """Adds what `office check-files` would say of the files, on the cells from which their values come."""
+    said = {line.place for line in job.lines if line.sort == "mistake"}
+    for kind, rows in job.records.items():
         progress(f"{kind}: check of {len(rows):,} rows")
-        header, found = files.HEADERS[kind], mistakes.File(kind, job.known).looked_through(
-            files.Record(line, tuple(map(encoded, record.fields)), True) for line, record in enumerate(rows, FIRST))
-        for sort, mistake in [(sort, each) for sort, lines in zip(("mistake", "note"), found) for each in lines]:
-            what = mistake.column
-            if mistake.line < FIRST:
-                job.report.add(sort, f"{kind}: {mistake.text}")
-                continue
-            record = rows[mistake.line - FIRST]
-            column = record.columns[header.index(what)] if what in header else None
-            place, text = place_name(record.sheet, record.row, column), f"{mistake.what}: {mistake.text}"
-            is_told = what in header and not record.fields[header.index(what)]  # of the cell, or of the header
-            if what == "row":  # it speaks of another line of the file
-                text = re.sub(r"\bline ([0-9]+)\b", lambda line: place_name(*rows[int(line[1]) - FIRST][:2]),
-                              mistake.text)
-            if not (is_told or place in said or place + text in said):
-                job.report.add(sort, text, record.sheet, record.row, column, f"{what} {mistake.text}")
-                said.add(place + text)  # a row of crosses has one number and is several rows of the file
+        check_file(job, kind, rows, said)
+
+
+def check_file(job: Job, kind: str, rows: list[Record], said: set[str]) -> None:
+    """Adds what is wrong with a file unless a line on the cell says it. What was said is known afterwards."""
+    header = files.HEADERS[kind]
+    file = mistakes.File(kind, job.known, place=lambda line: place_name(*rows[line - FIRST][:2]))
+    found = file.looked_through(files.Record(line, tuple(map(encoded, record.fields)), True)
+                                for line, record in enumerate(rows, FIRST))
+    for sort, mistake in [(sort, each) for sort, lines in zip(("mistake", "note"), found) for each in lines]:
+        if mistake.line < FIRST:
+            job.tell(sort, f"{kind}: {mistake.text}")
+            continue
+        record, place = rows[mistake.line - FIRST], header.index(mistake.column) if mistake.column in header else None
+        column = None if place is None else record.columns[place]
+        text = mistake.text if mistake.column == "row" else f"{mistake.what}: {mistake.text}"
+        cell = place_name(record.sheet, record.row, column)
+        is_told = place is not None and not record.fields[place]  # of the cell, or of the header
+        if not (is_told or cell in said or cell + text in said):
+            job.tell(sort, text, record.sheet, record.row, column, f"{mistake.column} {mistake.text}")
+            said.add(cell + text)  # a row of crosses has one number and is several rows of the file
 
 
 # -- the new folder, for its owner alone, whole or not at all
@@ -282,16 +268,16 @@ def new_folder(target: str) -> Iterator[str]:
         shutil.rmtree(making, ignore_errors=True)
 
 
-def write_folder(target: str, reading: Reading, lines_name: str) -> dict[str, str]:
-    """Makes the folder with the files and all lines of the report; says of each kind how many rows it has. Raises
-    `Trouble` where a line is a mistake."""
-    if reading.report.count("mistake"):
+def write_folder(target: str, job: Job, lines_name: str) -> list[str]:
+    """Makes the folder with the files and all lines of the reading; gives what is said of each kind. Raises `Trouble`
+    where a line is a mistake."""
+    if job.count("mistake"):
         raise Trouble("there are mistakes, so nothing is written", target)
     with new_folder(target) as making:
-        text = "".join(f"{plain(line.whole())}\n" for line in reading.report.lines)
+        text = "".join(f"{plain(line.whole())}\n" for line in job.lines)
         files.put(os.path.join(making, lines_name), text.encode("utf-8", "backslashreplace"))
-        return {kind: write_kind(making, kind, (record.fields for record in reading.records[kind]))
-                for kind in files.HEADERS if reading.records.get(kind)}
+        return [write_kind(making, kind, [record.fields for record in records])
+                for kind, records in job.records.items()]
 
 
 def write_kind(folder: str, kind: str, rows: Iterable[list[str]]) -> str:
@@ -300,7 +286,7 @@ def write_kind(folder: str, kind: str, rows: Iterable[list[str]]) -> str:
     for name, text, _ in parts:
         files.put(os.path.join(folder, name), text)
     where = f", in {' and '.join(name for name, *_ in parts)}" if len(parts) > 1 else ""
-    return f"{sum(count for *_, count in parts)}{where}"
+    return f"{kind}: {sum(count for *_, count in parts)}{where}"
 
 
 def workbook_of(rows: Rows | None) -> bytes:

@@ -1,16 +1,14 @@
 """The rows of a table: which of them count, and what their cells say."""
 import functools
-import itertools
 import re
 from collections.abc import Iterator, Mapping
 from dataclasses import replace
-from typing import NamedTuple
 
 from exam_desk import files
 from exam_desk.office import Trouble
-from exam_desk.workbook.cells import MOST_MERGED, Cell, Sheet, letters_of, place_name
+from exam_desk.workbook.cells import MOST_MERGED, Cell, letters_of, place_name
 from exam_desk.workbook.headers import HEADER_WORDS, MARKED, Given, find_header, folded, seen, text_cells
-from exam_desk.workbook.tables import Headed
+from exam_desk.workbook.tables import Headed, Record
 from exam_desk.workbook.values import AS_TEXT, MAY_BE_EMPTY, NO_DAY, STRUCK, UNREAD, Wrong, bare, mark_of, shown_of
 from exam_desk.words import FEATURES
 
@@ -21,35 +19,20 @@ MOST_ABOVE = 1000  # rows in which a value above an empty cell is looked for
 Row = Mapping[int, Cell | None]  # by column, what is read of a row
 
 
-class Record(NamedTuple):
-    """A row of an import file and where it comes from."""
-
-    sheet: Sheet
-    row: int
-    columns: list[int | None]  # of each field the column of the sheet
-    fields: list[str]
-
-
 class Table(Headed):
     """A table, whose rows are read."""
+
+    @property
+    def keys(self) -> list[str]:
+        return files.HEADERS[self.kind][:files.KEYS.get(self.kind, 1)]
 
     def records(self) -> list[Record]:
         self.tell_header()
         self.look_at_hidden()
+        self.look_at_mixed_dates()
         for row, column in sorted((row, column) for row, column in self.sheet.comments if row > self.header.row):
             self.note(row, column, "has a comment, which is not read")
-        self.look_at_mixed_dates()
-        found: list[Record] = []
-        formulas: dict[int, int] = {}
-        for row, here in self.counting_rows(self.filled_cells()):
-            for place, cell in self.sheet.rows[row].items():
-                if cell.struck and place not in self.places():
-                    self.note(row, place, f"{shown_of(cell)!r} is struck out; the row is read", "struck")
-            results = [place for place, cell in here.items() if cell and cell.formula and cell.kind not in UNREAD]
-            formulas = dict.fromkeys(results, row) | formulas
-            found += self.read_row(row, here)
-        for place, row in formulas.items():
-            self.note(row, place, f"formulas in column {letters_of(place)}: their last results are read")
+        found = [record for row, here in self.counting_rows(self.filled_cells()) for record in self.read_row(row, here)]
         if not found:
             self.note(None, None, f"has no {self.kind}; no file of them is written")
         return found
@@ -58,14 +41,13 @@ class Table(Headed):
 
     def look_at_hidden(self) -> None:
         """Hidden rows are a mistake until the officer says what becomes of them."""
-        rows, choice, end = self.sheet.rows, self.job.hidden, max(self.sheet.rows)
-        hidden = {row for first, last in self.sheet.hidden_rows for row in range(first, min(last, end) + 1)}
-        for row in sorted(row for row in hidden & self.below().keys() if any(map(seen, rows[row].values()))):
-            if choice == "take":
+        hidden = {row for first, last in self.sheet.hidden_rows for row in range(first, min(last, self.last) + 1)}
+        for row in [row for row, cells in self.below.items() if row in hidden and any(map(seen, cells.values()))]:
+            if self.job.hidden == "take":
                 self.note(row, None, "is hidden and read, as you said")
-            elif choice == "leave":
+            elif self.job.hidden == "leave":
                 self.note(row, None, "is hidden, so it is not read, as you said")
-                del rows[row]
+                del self.below[row]
             else:
                 options = self.job.way.or_say("--hidden take or --hidden leave")
                 self.mistake(row, None, f"is hidden, perhaps by a filter: show it{options}")
@@ -74,7 +56,7 @@ class Table(Headed):
         """True dates beside texts such as 13/06/2027: a spreadsheet of the other order of day and month has turned
         round the days up to the 12th, and left the others as text."""
         [place, *_] = self.header.columns.get("date", [0])
-        cells = [(row, cells[place]) for row, cells in self.below().items() if place in cells]
+        cells = [(row, cells[place]) for row, cells in self.below.items() if place in cells]
         texts = [row for row, cell in cells if AS_TEXT.fullmatch(bare(cell.text))]
         for row, cell in cells if texts else ():
             if cell.kind == "date" and cell.text[8:10] <= "12":
@@ -84,114 +66,120 @@ class Table(Headed):
                 self.mistake(row, place, text, "mixed")
 
     def filled_cells(self) -> dict[tuple[int, int], Cell]:
-        """What the cells that are merged downwards say for the rows below their first. A value below a merged cell is
-        one that nobody sees."""
+        """What the cells that are merged downwards say for the rows below their first."""
         filled: dict[tuple[int, int], Cell] = {}
-        names = {place: name for name, places in self.header.columns.items() for place in places} | self.marks
-        rows, end, covered = self.sheet.rows, max(self.sheet.rows), 0
+        covered = 0
         for top, left, bottom, right in self.sheet.merged:
-            last = min(bottom, end)
-            covered += max(1, last - top)
+            covered += max(1, min(bottom, self.last) - top)
             if covered > MOST_MERGED:
                 raise Trouble(f"its merged cells cover more than {MOST_MERGED:,} rows")
-            read = [place for place in names if left <= place <= right]
-            if bottom < self.header.row or not read:
-                continue
-            reach = f"{letters_of(left)}{top}:{letters_of(right)}{bottom}"
-            for row, place in itertools.product(range(max(top, self.header.row + 1), last + 1), read):
-                if (row, place) != (top, left) and (cell := seen(rows.get(row, {}).get(place))):
-                    text = f"{shown_of(cell)!r} is hidden by the merged cells {reach}: split them"
-                    self.mistake(row, place, text, "covered")
-            cell = seen(rows.get(top, {}).get(left))
-            if cell and left != right:
-                self.mistake(top, left, f"{reach} is merged over columns: split it")
-            elif cell and top > self.header.row:
-                filled |= dict.fromkeys([(row, left) for row in range(top + 1, last + 1)], cell)
-                text = f"{reach} is merged: {names[left]} {shown_of(cell)} counts for rows {top} to {last}"
-                self.change(top, left, text, "merged")
+            if bottom >= self.header.row and any(left <= place <= right for place in self.places):
+                filled |= self.filled_by(top, left, bottom, right)
         return filled
+
+    def filled_by(self, top: int, left: int, bottom: int, right: int) -> dict[tuple[int, int], Cell]:
+        """What a merged cell says for its rows. A value below it is one that nobody sees."""
+        reach, rows = f"{letters_of(left)}{top}:{letters_of(right)}{bottom}", range(top, min(bottom, self.last) + 1)
+        under = [(row, place) for row in rows for place in self.below.get(row, ()) if left <= place <= right]
+        for row, place in under:
+            cell = seen(self.below[row][place]) if place in self.places and (row, place) != (top, left) else None
+            if cell:
+                text = f"{shown_of(cell)!r} is hidden by the merged cells {reach}: split them"
+                self.mistake(row, place, text, "covered")
+        cell = seen(self.sheet.rows.get(top, {}).get(left))
+        if cell and left != right:
+            self.mistake(top, left, f"{reach} is merged over columns: split it")
+        elif cell and top > self.header.row:
+            self.change(top, left, f"{reach} is merged: {shown_of(cell)} counts for rows {top} to {rows[-1]}", "merged")
+            return dict.fromkeys([(row, left) for row in rows[1:]], cell)
+        return {}
 
     def counting_rows(self, filled: Mapping[tuple[int, int], Cell]) -> Iterator[tuple[int, Row]]:
         """The rows that are read, each with its cells of the table; of those that are left a line says why."""
-        below, data = self.below(), self.places()
-        last = max((row for row, cells in below.items() if not data.isdisjoint(cells)), default=0)
-        head = {place: folded(cell.text) for place, cell in self.head.items()}
-        for row, cells in below.items():
-            own = {place: seen(cells.get(place)) for place in data}
+        head, places = {place: folded(cell.text) for place, cell in self.head.items()}, sorted(self.places)
+        for row, cells in self.below.items():
+            own = {place: seen(cells.get(place)) for place in places}
             here = {place: cell or filled.get((row, place)) for place, cell in own.items()}
             if not any(own.values()):
-                for place in [place for place in sorted(cells) if seen(cells[place])][:1]:
-                    text = f"{shown_of(cells[place])!r} stands beside empty columns; the row is not read"
-                    self.note(row, place, text, "beside")
-            elif all(folded(cell.text) == head.get(at) if cell else at not in head for at, cell in here.items()):
-                self.note(row, None, "repeats the header; it is not read", "repeated")
-            elif next(cell.text for _, cell in sorted(here.items()) if cell).startswith(EXAMPLE):
-                text = f"{place_name(self.sheet, row)} is the example of the template; it is not read"
-                self.job.report.note(text, what="example")
-            elif self.is_total(row, here, row == last):
                 continue
-            elif self.begins_other(row):
+            if all(folded(cell.text) == head.get(at) if cell else at not in head for at, cell in here.items()):
+                self.note(row, None, "repeats the header; it is not read", "repeated")
+            elif next(cell.text for cell in here.values() if cell).startswith(EXAMPLE):
+                text = f"{place_name(self.sheet, row)} is the example of the template; it is not read"
+                self.job.note(text, what="example")
+            elif self.says_total(cells, here):
+                if self.is_whole(here):
+                    self.mistake(row, None, "is this a total? Delete the row, or give it another code")
+                else:
+                    self.note(row, None, "looks like a total; it is not read", "total")
+            elif kind := self.begins_other(row, cells):
+                self.mistake(row, None, f"a second table begins here ({kind}?): give it a sheet of its own")
                 break
             else:
                 yield row, here
 
-    def begins_other(self, row: int) -> bool:
-        """Whether a second table begins here, which ends the reading."""
-        cells = self.sheet.rows[row]
+    def begins_other(self, row: int, cells: dict[int, Cell]) -> str:
+        """The kind of the second table that begins in a row, or ''."""
         if len(ANY_HEADER.intersection(map(folded, text_cells(cells).values()))) < 2:
-            return False
+            return ""
         alone = replace(self.sheet, rows={row: cells})
-        kinds = [kind for kind in files.HEADERS if find_header(kind, alone, Given())]
-        if kinds:
-            self.mistake(row, None, f"a second table begins here ({kinds[0]}?): give it a sheet of its own")
-        return bool(kinds)
+        return next((kind for kind in files.HEADERS if find_header(kind, alone, Given())), "")
 
-    def is_total(self, row: int, here: Row, is_last: bool) -> bool:
-        """Whether a row is a total below the table: it is left out, and a line says so."""
-        cells, columns, header = self.sheet.rows[row].values(), self.header.columns, files.HEADERS[self.kind]
-        keys = [here.get(columns[name][0]) for name in header[:files.KEYS.get(self.kind, 1)] if name in columns]
-        word, key_is_word = any(map(says_total, cells)), any(map(says_total, keys))
-        computed = any(cell and cell.formula for cell in here.values())
-        if not (key_is_word or word and not all(keys) or computed and not any(keys)):
-            return False
-        needed = [name for name in header if name not in MAY_BE_EMPTY]
-        is_whole = all(any(here.get(place) for place in columns.get(name, [])) for name in needed) and \
-            all(map(self.job.said, header, keys))
-        if is_whole and all(cell.kind == "text" and not cell.formula for cell in cells):
-            self.note(row, None, "is read, though it looks like a total", "total")
-            return False
-        if is_whole or not (is_last or word or key_is_word):
-            self.mistake(row, None, "is this a total? Delete the row, or give it another code")
-        else:
-            self.note(row, None, "looks like a total; it is not read", "total")
-        return True
+    def says_total(self, cells: dict[int, Cell], here: Row) -> bool:
+        """Whether a row says that it is a total, in its key or beside a key that is empty."""
+        keys = [here[places[0]] for name, places in self.header.columns.items() if name in self.keys]
+        return any(map(says_total, keys)) or not all(keys) and any(map(says_total, cells.values()))
+
+    def is_whole(self, here: Row) -> bool:
+        """Whether a row has all that a row of its kind must have, and its key is one."""
+        columns = self.header.columns
+        return all(name in MAY_BE_EMPTY or any(here[place] for place in columns.get(name, []))
+                   and (name not in self.keys or self.job.said(name, here[columns[name][0]]))
+                   for name in files.HEADERS[self.kind])
 
     # -- what a row says
 
     def read_row(self, row: int, here: Row) -> list[Record]:
         """The records of a row: one, or in a table of papers one for each cross."""
+        self.note_looks(row, here)
         header, columns = files.HEADERS[self.kind], self.header.columns
         fields = [self.read_field(row, name, here) for name in header]
         places = [columns[name][0] if name in columns else None for name in header]
-        marks = {place: mark_of(here[place]) for place in self.marks}
-        for place in [place for place, mark in marks.items() if not mark]:
-            cell = here[place]
-            why = cell and (STRUCK if cell.struck else UNREAD.get(cell.kind)) or "is neither a cross nor empty"
-            self.mistake(row, place, f"below {self.marks[place]} {shown_of(cell)!r}: {why}", "cross")
-        crosses = [place for place, mark in marks.items() if mark == "yes"]
+        crosses = self.read_marks(row, here)
         if self.kind == "entries" and self.marks:
-            return [Record(self.sheet, row, [places[0], place], [fields[0], self.marks[place]]) for place in crosses]
+            return [Record(self.sheet, row, [places[0], place], [fields[0], name]) for place, name in crosses.items()]
         if self.marks:
-            named = {self.marks[place] for place in crosses}
+            named = {*crosses.values()}
             fields[header.index(MARKED[self.kind])] = "+".join(name for name in FEATURES if name in named) or "-"
         return [Record(self.sheet, row, places, fields)]
+
+    def note_looks(self, row: int, here: Row) -> None:
+        for place, cell in sorted(self.sheet.rows[row].items()):
+            if cell.formula and place in here and cell.kind not in UNREAD:
+                self.note(row, place, "is a formula, whose last result is read", "formula")
+            elif cell.struck and place not in here:
+                self.note(row, place, f"{shown_of(cell)!r} is struck out; the row is read", "struck")
+
+    def read_marks(self, row: int, here: Row) -> dict[int, str]:
+        """What the crosses of a row stand for, by column."""
+        crosses = {}
+        for place, name in self.marks.items():
+            cell = here[place]
+            mark = mark_of(cell)
+            if mark == "yes":
+                crosses[place] = name
+            elif not mark:
+                why = cell and (STRUCK if cell.struck else UNREAD.get(cell.kind)) or "is neither a cross nor empty"
+                self.mistake(row, place, f"below {name} {shown_of(cell)!r}: {why}", "cross")
+        return crosses
 
     def read_field(self, row: int, name: str, here: Row) -> str:
         """The field of a row, which may be joined of several cells."""
         places = self.header.columns.get(name, [])
-        if len(places) > 1:
-            return " ".join(self.read_one(row, name, here, place) for place in places if here[place])
-        return self.read_one(row, name, here, places[0]) if places else self.fixed.get(name, "")
+        if not places:
+            return self.fixed.get(name, "")
+        filled = [place for place in places if here[place]] or places[:1]
+        return " ".join(self.read_one(row, name, here, place) for place in filled)
 
     def read_one(self, row: int, name: str, here: Row, place: int) -> str:
         """The field of one cell. A time is taken beside a day if that is the day of the session, or no day."""

@@ -10,15 +10,17 @@ from typing import NamedTuple
 
 from exam_desk import files, mistakes
 from exam_desk.workbook.cells import Cell, Sheet, letters_of, place_name
-from exam_desk.workbook.headers import (HEADER_WORDS, MARKED, OF_PEOPLE, Given, Header, folded, is_called_list, seen,
-                                        text_cells)
-from exam_desk.workbook.values import NEAR, SHORT_FEATURES, UNREAD, Value, Way, Wrong, mark_of, read_value, shown_of
+from exam_desk.workbook.headers import HEADER_WORDS, MARKED, OF_PEOPLE, Given, Header, folded, is_called_list, seen
+from exam_desk.workbook.values import (NEAR, SHORT_FEATURES, UNREAD, Value, Way, Wrong, mark_of, read_value,
+                                           shown_of)
 
 WORDS = {"change": "", "note": "NOTE: ", "mistake": "MISTAKE: "}  # in the order in which they are printed
 MOST_PLACES = 5  # of lines that stand together
 MOST_TEXTS = 3  # of one kind that have a line each
 MOST_VALUES = 50_000  # that are kept, lest they are read again
 PARTICULAR = re.compile(r"[0-9]|\b[A-Z][A-Z-]+\b")  # in words that are numbers, dates or codes
+CROSSES = {"entries": "correct the code of the paper, or delete the column",  # what cures crosses that are not read
+           "candidates": "put papers on a sheet Entries, and needs on a sheet Arrangements, with the numbers"}
 Progress = Callable[[str], None]
 
 
@@ -47,22 +49,13 @@ class Line(NamedTuple):
         return ": ".join(filter(None, [self.place, f"{WORDS[self.sort]}{self.text}"]))
 
 
-class Report:
-    """The lines in the order in which they are found."""
+class Record(NamedTuple):
+    """A row of an import file and where it comes from."""
 
-    def __init__(self) -> None:
-        self.lines: list[Line] = []
-
-    def add(self, sort: str, text: str, sheet: Sheet | None = None, row: int | None = None, column: int | None = None,
-            what: str = "") -> None:
-        self.lines.append(Line(sort, text, sheet, [row] if row else [], column, what or text))
-
-    mistake = partialmethod(add, "mistake")
-    change = partialmethod(add, "change")
-    note = partialmethod(add, "note")
-
-    def count(self, sort: str) -> int:
-        return sum(line.sort == sort for line in self.lines)
+    sheet: Sheet
+    row: int
+    columns: list[int | None]  # of each field the column of the sheet
+    fields: list[str]
 
 
 def together(lines: Iterable[Line]) -> list[Line]:
@@ -87,7 +80,7 @@ def joined(lines: list[Line]) -> Line:
 
 @dataclass
 class Job:
-    """One reading of a workbook, with what the officer chose for doubtful sheets and rows."""
+    """One reading of a workbook: what the officer chose for doubtful sheets and rows, and what comes of it."""
 
     known: mistakes.Known
     way: Way = Way()
@@ -96,13 +89,25 @@ class Job:
     leave: list[str] = field(default_factory=list)  # sheets that are not read
     together: list[str] = field(default_factory=list)  # all sheets of such a kind are one list
     hidden: str = ""  # take or leave: what becomes of hidden rows
-    report: Report = field(default_factory=Report)
-    papers: set[str] = field(default_factory=set)  # codes that the office or the workbook has
     days: dict[str, str] = field(default_factory=dict)  # of the sessions that are imported with it
+    papers: set[str] = field(default_factory=set)  # codes that the office or the workbook has
+    records: dict[str, list[Record]] = field(default_factory=dict)  # by kind; those with a mistake are not written
+    lines: list[Line] = field(default_factory=list)
 
     def __post_init__(self) -> None:
         read = partial(read_value, way=self.way)
         self.value: Callable[[str, Cell | None], Value] = functools.lru_cache(MOST_VALUES)(read)
+
+    def tell(self, sort: str, text: str, sheet: Sheet | None = None, row: int | None = None,
+             column: int | None = None, what: str = "") -> None:
+        self.lines.append(Line(sort, text, sheet, [row] if row else [], column, what or text))
+
+    mistake = partialmethod(tell, "mistake")
+    change = partialmethod(tell, "change")
+    note = partialmethod(tell, "note")
+
+    def count(self, sort: str) -> int:
+        return sum(line.sort == sort for line in self.lines)
 
     def of_kind(self, kind: str) -> Given:
         return self.given.get(kind, Given())
@@ -129,143 +134,124 @@ class Headed:
     sheet: Sheet
     header: Header
     paper: str = ""  # the paper whose candidates the sheet lists, or ''
-    marks: dict[int, str] = field(default_factory=dict)  # of a column of crosses its feature or paper
 
     def __post_init__(self) -> None:
-        self.head = self.sheet.rows[self.header.row]
+        rows, row = self.sheet.rows, self.header.row
+        self.head, self.last = rows[row], max(rows)
+        self.below = {other: rows[other] for other in sorted(rows) if other > row}
         fixed = self.job.of_kind(self.kind).fixed
         self.fixed = {**fixed, "paper": self.paper} if self.paper else fixed  # of a column a value for all rows
-        self.marked = MARKED.get(self.kind, "paper")  # the column in place of which columns of crosses may stand
-        self.crossed = self.columns_of_crosses()
-        if self.marked not in {*self.header.columns, *self.fixed}:
-            self.marks = self.crossed
-
-    def columns_of_crosses(self) -> dict[int, str]:
-        """The columns below features, for entries those below the codes of papers, which may have crosses."""
-        free = {place: cell for place, cell in self.head.items() if place not in self.places()}
-        if self.kind == "entries":
-            return {place: code for place, cell in free.items() if (code := self.job.paper(cell))}
-        return {place: SHORT_FEATURES[word] for place, text in text_cells(free).items()
-                if self.kind in MARKED and (word := folded(text)) in SHORT_FEATURES}
+        self.places = {place for places in self.header.columns.values() for place in places}  # columns that are read
+        self.marks: dict[int, str] = {}  # of a column of crosses its feature or paper
+        free = {place: cell for place, cell in self.head.items() if place not in self.places}
+        if MARKED.get(self.kind) in (None, *self.header.columns, *self.fixed):
+            return
+        for place, cell in free.items():
+            name = self.job.paper(cell) if self.kind == "entries" else SHORT_FEATURES.get(folded(cell.text[:200]))
+            if name:
+                self.marks[place] = name
+                self.header.twice.setdefault(name, []).append(place)
+        self.places |= set(self.marks)
 
     def tell(self, sort: str, row: int | None, column: int | None, text: str, what: str = "") -> None:
-        self.job.report.add(sort, text, self.sheet, row, column, what)
+        self.job.tell(sort, text, self.sheet, row, column, what)
 
     mistake = partialmethod(tell, "mistake")
     change = partialmethod(tell, "change")
     note = partialmethod(tell, "note")
 
-    def places(self) -> set[int]:
-        return {place for places in self.header.columns.values() for place in places} | set(self.marks)
-
-    def below(self) -> dict[int, dict[int, Cell]]:
-        """The rows below the header, in order."""
-        return {row: self.sheet.rows[row] for row in sorted(self.sheet.rows) if row > self.header.row}
-
-    def first_places(self, counts: Callable[[Cell], object]) -> dict[int, int]:
-        """Of each column with cells that count below the header the first row with one."""
-        return {place: row for row, cells in reversed(self.below().items()) for place, cell in cells.items()
-                if counts(cell)}
-
-    def first_crosses(self) -> dict[int, int]:
-        """Of each column with crosses below the header the first row with one. Numbers count as crosses where a column
-        has nothing else than 1 and 0."""
-        others = self.first_places(lambda cell: not mark_of(cell))
-        return {place: row for place, row in self.first_places(lambda cell: mark_of(cell) == "yes").items()
-                if place not in others or self.sheet.rows[row][place].kind != "number"}
-
     # -- lines on the header
 
     def tell_header(self) -> None:
-        row = self.header.row
+        row, marks = self.header.row, ", ".join(self.marks.values())
         if self.paper:
             self.note(None, None, f"bears the name of a paper: whom it lists is entered for {self.paper}")
         elif self.kind == "entries" and self.job.way.is_command and is_called_list(self.sheet.name):
             self.mistake(None, None, "is called a list of entries to be withdrawn or reinstated: save it as CSV for "
                          "`office withdraw --list FILE.csv`, or call it Entries if they are to be entered")
-        if self.marks:
-            names = ", ".join(self.marks.values())
-            self.note(row, min(self.marks), f"crosses below {names} are read as {MARKED.get(self.kind, 'entries')}")
-        for name, places in self.header.twice.items():
-            columns = ", ".join(map(letters_of, places))
-            self.mistake(row, places[1], f"columns {columns} could all be {name}: keep one header, or say which in a "
-                         "file of columns")
+        if min(self.sheet.rows) < row:
+            self.note(row, None, "is taken as the header; what stands above it is not read")
+        if marks:
+            self.note(row, min(self.marks), f"crosses below {marks} are read as {MARKED[self.kind]}")
         self.tell_names()
         self.tell_lacking()
         self.tell_columns()
 
     def tell_names(self) -> None:
-        row = self.header.row
-        if min(self.sheet.rows) < row:
-            self.note(row, None, "is taken as the header; what stands above it is not read")
+        """From which columns values are read, where a header has another word, or two could be one."""
         read = {name: " with ".join(repr(self.head[place].text.strip()) for place in places)
                 for name, places in self.header.columns.items()}
         others = {name: shown for name, shown in read.items() if shown.lower() != repr(name)}
         for name in self.fixed.keys() & read.keys():
             text = f"{name} is read from this column, and is not always {self.fixed[name]} as the file of columns says"
-            self.note(row, self.header.columns[name][0], text)
+            self.note(self.header.row, self.header.columns[name][0], text)
         if others:
             verb = "columns {} are" if len(others) > 1 else "the column {} is"
-            self.note(row, None, f"{verb.format(', '.join(others))} read from {', '.join(others.values())}")
+            text = f"{verb.format(', '.join(others))} read from {', '.join(others.values())}"
+            self.note(self.header.row, None, text)
+        for name, places in self.header.twice.items():
+            if len(places) > 1:
+                columns = ", ".join(map(letters_of, places))
+                self.mistake(self.header.row, places[1], f"columns {columns} could all be {name}: keep one header, or "
+                             "say which in a file of columns")
 
     def tell_lacking(self) -> None:
         """The columns of the kind that the sheet does not have."""
         asked, there = self.job.of_kind(self.kind).headers, {*self.header.columns, *self.fixed}
         if self.marks:
-            there.add(self.marked)
+            there.add(MARKED[self.kind])
         for name in [name for name in files.HEADERS[self.kind] if name not in there]:
             if name == "code" and name not in asked:
                 self.note(self.header.row, None, "there is no column code")
-            else:
-                said = " with ".join(map(repr, asked.get(name, [])))
-                why = f"; no header is {said}, as the file of columns says" if said else ""
-                text = f"the column {name} is missing{why}: add it ({mistakes.CURES[name]})"
-                self.mistake(self.header.row, None, text)
+                continue
+            why = f", which the file of columns calls {asked[name]}" if name in asked else ""
+            self.mistake(self.header.row, None, f"the column {name} is missing{why}: add it ({mistakes.CURES[name]})")
 
     def tell_columns(self) -> None:
         """What is wrong with a column, or that it is hidden or not read."""
-        row, read, there = self.header.row, self.places(), self.first_places(seen)
-        crosses = self.first_crosses() if self.kind != "entries" or self.marks else {}
-        for place in sorted({*there, *self.head}):
-            cell, letter = self.head.get(place), letters_of(place)
-            if wrong := self.fault_of(place, cell, crosses):
+        row, columns = self.header.row, {place: dict[int, Cell]() for place in self.head}
+        for line, place, cell in [(line, *each) for line, cells in self.below.items() for each in cells.items()]:
+            if seen(cell):
+                columns.setdefault(place, {})[line] = cell
+        for place, cells in sorted(columns.items()):
+            head = self.head.get(place)
+            if wrong := self.fault_of(place, head, cells):
                 self.mistake(row, place, wrong)
-            elif place in read and any(first <= place <= last for first, last in self.sheet.hidden_columns):
-                self.note(row, place, f"column {letter} is hidden; it is read")
-            elif cell is None:
-                self.note(there[place], place, f"column {letter} has values but no header; it is not read")
-            elif place not in read:
-                self.note(row, place, f"the column {shown_of(cell).strip()!r} is not read")
+            elif place in self.places and any(first <= place <= last for first, last in self.sheet.hidden_columns):
+                self.note(row, place, f"column {letters_of(place)} is hidden; it is read")
+            elif place not in self.places:
+                name = repr(shown_of(head).strip()) if head else "with no header"
+                self.note(row if head else min(cells), place, f"the column {name} is not read")
 
-    def fault_of(self, place: int, cell: Cell | None, crosses: Mapping[int, int]) -> str:
-        """What is wrong with a column that has this header, or none, and perhaps crosses; or ''."""
-        said, name = cell.text.strip() if cell else "", self.marks.get(place)
-        if cell and cell.kind in UNREAD:
-            return f"its header is {UNREAD[cell.kind]}"
-        if place in self.places():
-            if cell and cell.struck:
-                return f"the header {shown_of(cell)!r} is struck out: delete the column, or take the line away if it " \
-                    "counts"
-            is_second = name in [other for at, other in self.marks.items() if at < place]
-            return f"the {'paper' if self.kind == 'entries' else 'feature'} {name} has two columns" if is_second else ""
-        if place in self.crossed and place in crosses:
-            return f"{self.crossed[place]} has crosses beside the column {self.marked}: keep one of the two"
-        if self.kind in MARKED and place in crosses and folded(said) in NEAR:
-            return f"{said!r} has crosses and is no feature: call it {NEAR[folded(said)]} if that is meant, or " \
-                "delete the column"
-        gone = self.first_places(lambda cell: mark_of(cell) != "no" if is_called_list(said) else
-                                 is_called_list(cell.text)) if self.kind == "entries" else {}
-        if row := gone.get(place):
-            where = place_name(self.sheet, row, place)
+    def fault_of(self, place: int, head: Cell | None, cells: Mapping[int, Cell]) -> str:
+        """What is wrong with a column that has this header, or none, and these cells below it; or ''."""
+        said = head.text.strip() if head else ""
+        if head and head.kind in UNREAD:
+            return f"its header is {UNREAD[head.kind]}"
+        if place in self.places:
+            why = f"the header {said!r} is struck out: delete the column, or take the line away if it counts"
+            return why if head and head.struck else ""
+        is_list = is_called_list(said)
+        withdrawn = [row for row, cell in cells.items()
+                     if is_called_list(cell.text) or is_list and mark_of(cell) != "no"]
+        if self.kind == "entries" and withdrawn:
+            where = place_name(self.sheet, withdrawn[0], place)
             return f"{where} seems to say that an entry is withdrawn: delete each such row, then the column"
-        if self.kind == "entries" and place in crosses and folded(said) not in OF_PEOPLE:
-            what = f"{said!r} is no paper that is known" if cell else "the column has no header"
-            where = place_name(self.sheet, crosses[place], place)
-            return f"{what}, and has crosses ({where}): correct the code, or delete the column"
         if self.paper and folded(said) in HEADER_WORDS["entries", "paper"] - {"code"}:
-            return f"{shown_of(cell)!r} names papers, as the sheet does: delete the column, or call the sheet Entries"
-        may_be_code = files.is_code(said.encode("utf-8", "replace")) or folded(said) in SHORT_FEATURES
-        if self.kind == "candidates" and (self.job.paper(cell) or place in crosses and may_be_code):
-            return f"what stands below {shown_of(cell)} is not read here: put papers on a sheet Entries, and needs " \
-                "on a sheet Arrangements, with the numbers"
-        return ""
+            return f"{said!r} names papers, as the sheet does: delete the column, or call the sheet Entries"
+        return self.fault_of_crosses(place, head, cells)
+
+    def fault_of_crosses(self, place: int, head: Cell | None, cells: Mapping[int, Cell]) -> str:
+        """What is wrong with crosses that are not read; numbers are some where there is nothing else than 1 and 0."""
+        said = head.text.strip() if head else ""
+        word, marks = folded(said), {row: mark_of(cell) for row, cell in cells.items()}
+        crosses = [row for row, mark in marks.items()
+                   if mark == "yes" and (cells[row].kind != "number" or all(marks.values()))]
+        name, is_code = SHORT_FEATURES.get(word) or NEAR.get(word), files.is_code(said.encode("utf-8", "replace"))
+        matters = {"entries": self.marks and word not in OF_PEOPLE,
+                   "candidates": is_code or self.job.paper(head) or word in SHORT_FEATURES}
+        if not crosses or not matters.get(self.kind, self.kind in MARKED and name):
+            return ""
+        cure = CROSSES.get(self.kind, f"call it {name}, and keep no column {MARKED.get(self.kind)} beside it")
+        what, where = repr(said) if said else "a column with no header", place_name(self.sheet, crosses[0], place)
+        return f"{what} has crosses ({where}) which are not read: {cure}"

@@ -49,9 +49,7 @@ DATES = [re.compile(form) for form in (  # the first form that a text has counts
     r"(?:(?P<weekday>[^\W\d]+),? )?(?P<name>[^\W\d]+)\.? (?P<day>[0-9]{1,2})(?:st|nd|rd|th)?,? (?P<year>[0-9]{4})",
     r"[0-9]{1,2}[/.-][0-9]{1,2}[/.-](?P<short>[0-9]{2})")]
 AS_TEXT = re.compile(r"([0-9]{1,2})([/.-])([0-9]{1,2})\2([0-9]{2}|[0-9]{4})")  # however a spreadsheet shows a date
-BOTH_DATES = "? Write it so"
-NEXT_DAYS = ("1899-12-31", "1900-01-01")  # of a time of more than 24 hours
-NO_DAY = ("1899-12-30", "1904-01-01", *NEXT_DAYS)  # what stands in front of a time alone
+NO_DAY = ("1899-12-30", "1904-01-01")  # what stands in front of a time alone
 HOURS = re.compile(r"([0-9]{1,2})(?::([0-5][0-9])(?::00)?|"
                    r" ?(?:h|hrs?|hours?|Std\.?) ?(?:([0-5]?[0-9]) ?(?:min|mins|minutes|m)?)?)", re.I)
 UNITS = {"minutes": re.compile(r"([0-9]{1,3}) ?(min|mins|minutes|Minuten|')\.?", re.I),
@@ -101,8 +99,7 @@ class Value(NamedTuple):
 
 def read_value(column: str, cell: Cell | None, way: Way) -> Value:
     """The value of a cell, or of an empty one, as a column of the import files asks for it; raises `Wrong`."""
-    found = cell or Cell("text", "", "")
-    read, kinds = READERS[column]
+    found, (read, kinds) = cell or Cell("text", "", ""), READERS[column]
     if len(found.text) > MOST_LETTERS:
         raise Wrong(f"has {len(found.text):,} letters; at most {MOST_LETTERS} are looked at")
     if found.struck:
@@ -182,7 +179,7 @@ def read_number(column: str, cell: Cell, text: str, way: Way) -> Value:
     padded = mistakes.with_zeros(digits.encode("utf-8", "surrogatepass")).decode("utf-8", "surrogatepass")
     if re.fullmatch(r"[0-9]{1,3}([ ,.'’][0-9]{3})+", digits):
         raise Wrong(f"marks between the digits: write {re.sub('[^0-9]', '', digits).zfill(7)} if that is meant")
-    elif re.fullmatch(r"[0-9]{8,}", digits):
+    if re.fullmatch(r"[0-9]{8,}", digits):
         raise Wrong(f"{len(digits)} digits; a number has seven")
     return Value(padded, reason("a quote in front taken away" * quoted, "zeros in front" * (padded != digits)))
 
@@ -284,7 +281,8 @@ def slashed(first: int, second: int, year: str, way: Way) -> Value:
                          f", {way.dates}" if way.dates else "")
     if not dates:
         raise Wrong(f"is no date with the {way.dates.replace('-', ' ')}" if way.dates else mistakes.CURES["date"])
-    raise Wrong(f"{' or '.join(dates.values())}{BOTH_DATES}{way.or_say('--dates day-first or --dates month-first')}")
+    options = way.or_say("--dates day-first or --dates month-first")
+    raise Wrong(f"{' or '.join(dates.values())}? Write it so{options}")
 
 
 # -- times of day, minutes, desks and percent
@@ -303,8 +301,7 @@ def read_time(column: str, cell: Cell, text: str, way: Way) -> Value:
     if column == "until" and (hour == 0 if "half" in said else time == "00:00" and cell.kind != "text"):
         raise Wrong("midnight? Write 24:00 as text if the hall is open until then")
     if "day" in said:
-        return Value(time, "the time of the cell", "has more than 24 hours in its cell" * (said["day"] in NEXT_DAYS),
-                     said["day"])
+        return Value(time, "the time of the cell", day=said["day"])
     is_never = column == "until" and time == "00:00" and ":" in text
     return Value(time, "", "a hall that is open until 00:00 suits nobody; midnight is 24:00" * is_never)
 

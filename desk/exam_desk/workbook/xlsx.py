@@ -142,18 +142,12 @@ class Reader:
     def keep_row(self, sheet: Sheet, row: int, element: Element) -> None:
         column = 0
         for part in element.iterfind(CELL):
-            try:
-                at, column = place_of(part.attrib["r"]) if part.get("r") else (row, column + 1)
-                cell = self.cell(part)
-            except (Trouble, ValueError, LookupError, ArithmeticError) as fault:
-                why = fault.sentence if isinstance(fault, Trouble) else "is broken"
-                raise Trouble(f"{place_name(sheet, row, column)} {why}: {OPEN_AND_SAVE}") from fault
-            if cell is None:
-                continue
-            self.budget.keep(cell.text, 1, at, column)
-            if column in sheet.rows.setdefault(at, {}):
-                raise Trouble(f"it has the cell {place_name(sheet, at, column)} twice: {OPEN_AND_SAVE}")
-            sheet.rows[at][column] = cell
+            at, column = place_of(part.attrib["r"]) if part.get("r") else (row, column + 1)
+            if cell := self.cell(part):
+                self.budget.keep(cell.text, 1, at, column)
+                if column in sheet.rows.setdefault(at, {}):
+                    raise Trouble(f"it has the cell {place_name(sheet, at, column)} twice: {OPEN_AND_SAVE}")
+                sheet.rows[at][column] = cell
 
     def cell(self, part: Element) -> Cell | None:
         """The cell of an element <c>: no day is computed, a formula is its last result."""
@@ -166,7 +160,7 @@ class Reader:
             text, struck = ("", False) if inside is None else letters_of(inside)
         elif kind == "s" and text:
             if (number := int(text)) not in range(len(self.texts)):
-                raise Trouble("refers to a text that is not there")
+                raise Trouble(f"a cell refers to a text that is not there: {OPEN_AND_SAVE}")
             text, struck = self.texts[number]
         if not text:
             return None
@@ -183,7 +177,7 @@ class Reader:
         elif kind == "d":
             found = Cell("date", whole_day(text.removesuffix("Z")), "")
         else:
-            raise Trouble(f"is of the kind {kind}, which is not known here")
+            raise Trouble(f"a cell is of the kind {kind}, which is not known here: {OPEN_AND_SAVE}")
         is_plain = not (formula or struck or all_struck)
         return found if is_plain else found and found._replace(formula=formula, struck=struck or all_struck)
 

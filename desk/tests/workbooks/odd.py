@@ -33,7 +33,7 @@ case("name-three-times", xlsx(sheet("Candidates", ["number", "Name", "Vorname", 
 case("list-of-withdrawals", xlsx(sheet("Withdrawals", ENTRIES, ["0000001", "MA-1"])), 1, only=True,
      mistakes=[["Withdrawals", "office withdraw --list"]])
 case("paper-without-header", xlsx(TWO_PAPERS, sheet("MA-1", ["0000001", "Ada Lin"], ["0000002", "Bo Berg"])), 1, only=True,
-     mistakes=[["'MA-1'!1", "the name of a paper", "column number"]])
+     mistakes=[["'MA-1'!1", "no row is a header with number", "the code of a paper"]])
 
 # numbers with units, and numbers that are shown rounded
 case("minutes-with-units", xlsx(sheet("Papers", PAPERS, ["MA-1", "Maths", "S1", ("n", "2", '0" h"'), "-"], ["FR", "French", "S1", ("n", "90", '0" min"'), "-"])),
@@ -47,23 +47,23 @@ case("rounded", xlsx(candidates([("n", "16.6", "0"), "Ada Lin", "CODE0001"]),
                              ["Papers!D2", "is the number 1.5, but shown as 2"], ["Papers!D3", "a whole number"]])
 case("two-numbers-of-one", xlsx(candidates([("n", "17", "0-0"), "Ada Lin", "CODE0001"])), 1, only=True, mistakes=[["Candidates!A2", "a format of its own"]])
 case("stored-nonsense", xlsx(candidates([("raw", '<c r="{ref}"><v>1_7</v></c>'), "Ada Lin", "CODE0001"])), 1,
-     stderr=["Candidates!A2 is broken"])
+     stderr=["it is broken"])
 case("stored-too-much", xlsx(candidates([("raw", '<c r="{ref}"><v>1e99999999999</v></c>'), "Ada Lin", "CODE0001"])), 1,
-     stderr=["Candidates!A2 is broken"])
+     stderr=["it is broken"])
 case("formula-of-text-without-result", xlsx(candidates(["0000001", "Ada Lin", ("raw", '<c r="{ref}" t="str"><f>A1</f></c>')],
      ["0000002", "Bo Berg", ("raw", '<c r="{ref}" t="str"><f>A1</f><v></v></c>')])), 1, only=True, mistakes=[["Candidates!C2", "formula"]])
 
 # times and dates
-case("more-than-a-day", xlsx(sheet("Openings", OPENINGS, ["S1", "A", 10, ("n", "1.375", TIME), "no"])), files={"openings": ["S1,A,10,09:00,no"]},
-     told=[["Openings!D2", "until 09:00 has more than 24 hours in its cell"]])
+case("more-than-a-day", xlsx(sheet("Openings", OPENINGS, ["S1", "A", 10, ("n", "1.375", TIME), "no"])), 1, only=True,
+     mistakes=[["Openings!D2", "has a date too, 1899-12-31"]])
 case("another-calendar", xlsx(sheet("Sessions", SESSIONS, ["S1", ("n", "46539", "[$-107041E]yyyy-mm-dd"), "09:00"])),
      files={"sessions": ["S1,2027-06-01,09:00"]}, told=[["Sessions!B2", "2027-06-01 (a true date) became", "Tuesday"]])
 case("leap-day", xlsx(sheet("Sessions", SESSIONS, ["S1", "29/02/2028", "09:00"])), files={"sessions": ["S1,2028-02-29,09:00"]},
      told=[["Sessions!B2", "Tuesday", "as there is no month 29"]])
 
 # rows
-case("whole-rows-of-totals", xlsx(sheet("Halls", HALLS, ["TOTAL", "Total", "-"], ["SUM", "Sum", None])),
-     files={"halls": ["TOTAL,Total,-", "SUM,Sum,-"]}, told=[["Halls!2", "is read, though it looks like a total"], ["Halls!3", "is read"]])
+case("whole-rows-of-totals", xlsx(sheet("Halls", HALLS, ["TOTAL", "Total", "-"], ["SUM", "Sum", None])), 1, only=True,
+     mistakes=[["Halls!2", "is this a total?"], ["Halls!3", "give it another code"]])
 case("whole-row-with-a-number", xlsx(sheet("Openings", OPENINGS, ["TOTAL", "A", 10, "12:00", "no"])), 1, only=True,
      mistakes=[["Openings!2", "total?"]])
 case("struck-cross", xlsx(TWO_PAPERS, sheet("Entries", ["number", "MA-1"], ["0000001", ("strike", "x")])), 1, only=True,
@@ -123,7 +123,7 @@ case("formats-by-number", xlsx(sheet("Sessions", SESSIONS, ["S1", ("raw", '<c r=
      sheet("Openings", OPENINGS, ["S1", "A", ("raw", '<c r="{ref}" s="3"><v>24</v></c>'), "12:00", "no"]),
      sheet("Arrangements", ARRANGEMENTS, ["0000001", "-", ("raw", '<c r="{ref}" s="4"><v>0.25</v></c>')]), parts={"xl/styles.xml": STYLES}),
      files={"sessions": ["S1,2027-06-01,09:00"], "openings": ["S1,A,24,12:00,no"], "arrangements": ["0000001,-,25"]},
-     told=[["Sessions!B2", "Tuesday"], ["Sessions!C2", "9:00 AM became 09:00"], ["Openings!C2", "24.00 became 24"]])
+     told=[["Sessions!B2", "Tuesday"], ["Sessions!C2", "a true time", "became 09:00"], ["Openings!C2", "24.00 became 24"]])
 case("other-namespace", changed(xlsx(sheet("Halls", HALLS, ["A", "Hall A", "-"]), candidates(ADA)), "xl/worksheets/sheet1.xml", MAIN, "urn:other"),
      files={"candidates": [ADA_LINE]}, told=[["", "the sheet Halls is no table"]])
 
@@ -148,7 +148,7 @@ case("struck-and-odd", xlsx(candidates(["0000001", ("strike", "Fran\u00c3\u00a7o
 case("text-under-a-format-of-numbers", xlsx(candidates([("t", "0000001", "@ 0"), *ADA[1:]])), files={"candidates": [ADA_LINE]},
      told=[["Candidates!A2", "0000001"]])
 case("column-of-other-letters", xlsx(candidates([ADA[0], ("raw", '<c r="\u00c92" t="inlineStr"><is><t>Ada Lin</t></is></c>'), ADA[2]])), 1,
-     stderr=["is broken"])
+     stderr=["it is broken or cut short (ValueError: '\u00c9' is no column)"])
 case("numbers-beyond-all-digits", xlsx(candidates([("n", "1e30", "0"), *ADA[1:]], [("n", "-1e999999", "General"), *BO[1:]])), 1, only=True,
      mistakes=[["Candidates!A2", "1.00000E+30"], ["Candidates!A3", "-1.00000E+999999"]])
 case("row-of-headers-words", xlsx(sheet("Candidates", [*CANDIDATES, "Form"], [*ADA, None], ["0000002", "Hall", "CODE0002", "Exam"])),
@@ -158,7 +158,7 @@ case("total-beside-codes", xlsx(sheet("Openings", OPENINGS, ["S1", "A", 10, "12:
 case("minus-zero", xlsx(sheet("Arrangements", ARRANGEMENTS, ["0000001", "quiet", ("n", "-0", "General")])),
      files={"arrangements": ["0000001,quiet,0"]})
 case("total-in-the-middle", xlsx(sheet("Openings", OPENINGS, ["S1", "A", 10, "12:00", "no"], [None, None, ("f", "SUM(C2)", 10), None, None],
-     ["S1", "B", 5, "12:00", "no"])), 1, only=True, mistakes=[["Openings!3", "is this a total?"]])
+     ["S1", "B", 5, "12:00", "no"])), 1, only=True, mistakes=[[f"Openings!{letter}3", "is missing"] for letter in "ABD"])
 case("merged-and-empty", xlsx(candidates(ADA, [], [], [], BO, merge=["A3:C3", "A4:A5"])), files={"candidates": [ADA_LINE, BO_LINE]}, quiet=True)
 case("merged-header-downwards", xlsx(candidates([], ADA, merge=["A1:A2", "B1:B2"])), files={"candidates": [ADA_LINE]}, quiet=True)
 case("numbers-by-conditions", xlsx(sheet("Openings", OPENINGS, ["S1", "A", ("n", "24", '[>100]0;0"0"'), "12:00", "no"],
@@ -180,7 +180,7 @@ case("percent-by-conditions", xlsx(sheet("Arrangements", ARRANGEMENTS, ["0000001
      files={"arrangements": ["0000001,-,25"]}, told=[["Arrangements!C2", "extra 25% became 25 (percent)"]])
 case("hidden-and-empty", xlsx(candidates(ADA, [" "], BO, hidden_rows=[3])), files={"candidates": [ADA_LINE, BO_LINE]}, quiet=True)
 case("total-above-a-note", xlsx(sheet("Openings", OPENINGS, ["S1", "A", 10, "12:00", "no"], [None, None, ("f", "SUM(C2)", 10), None, None],
-     [None, None, None, None, None, "made by Bo"])), files={"openings": ["S1,A,10,12:00,no"]}, told=[["Openings!3", "looks like a total"]])
+     [None, None, None, None, None, "made by Bo"])), 1, only=True, mistakes=[[f"Openings!{letter}3", "is missing"] for letter in "ABD"])
 case("called-sum", xlsx(candidates(["0000001", "Sum", "CODE0001"])), files={"candidates": ["0000001,Sum,CODE0001"]}, quiet=True)
 case("wrong-code", xlsx(candidates(["0000001", "Ada Lin", "SHORT"])), 1, only=True, mistakes=[["Candidates!C2"]],
      told=[["", "1 mistake, 0 changes, 0 notes"]])
@@ -200,7 +200,7 @@ case("sheet-named", xlsx(candidates(ADA), PUPILS), files={"candidates": [ADA_LIN
      told=[["Pupils", "is not read, as you said"]])
 case("sheet-named-and-hidden", xlsx(candidates(ADA), PUPILS | {"state": "hidden"}), files={"candidates": [BO_LINE]}, args=["--sheet", "Pupils"])
 case("sheets-that-are-not-there", xlsx(candidates(ADA)), 1, args=["--sheet", "Pupils", "--leave", "candidates"],
-     mistakes=[["", "there is no sheet Pupils; there are: Candidates"], ["", "there is no sheet candidates;"]])
+     mistakes=[["", "there is no sheet Pupils, candidates; there are: Candidates"]])
 case("columns-of-sheets", xlsx(sheet("Pupils 2027", ["Nr", *CANDIDATES[1:]], ADA), sheet("Alumni", ["Nr", *CANDIDATES[1:]], BO), sheet("Plan", CANDIDATES[:2], BO[:2])),
      files={"candidates": [ADA_LINE]}, args=["--columns", "{here}/columns.toml"],
      beside={"columns.toml": '[candidates]\nsheet = "PUPILS-2027"\nnumber = "Nr"\n'}, told=[["Alumni", "not read"], ["Plan", "not read"]])
@@ -212,7 +212,7 @@ case("columns-of-no-paper", xlsx(sheet("Papers", PAPERS, ["MA-1", "Maths", "S1",
 case("zeros-of-no-candidate", xlsx(candidates(ADA), sheet("Entries", ENTRIES, [1, "MA-1"], [9, "MA-1"])), 1, only=True,
      mistakes=[["Entries!A3", "is not among the candidates"]])
 case("notes-below-papers", xlsx(sheet("Papers", PAPERS, ["MA-1", "Maths", "S1", 90, "-"], [None, None, None, None, None, "as of May"])),
-     files={"papers": ["MA-1,Maths,S1,90,-"]}, told=[["Papers!F3", "stands beside empty columns"]])
+     files={"papers": ["MA-1,Maths,S1,90,-"]}, told=[["Papers!F3", "the column with no header is not read"]])
 case("sheet-called-as-a-header", xlsx(TWO_PAPERS, sheet("Paper", ["number", "name"], ADA[:2])),
      files={"papers": ["MA-1,Maths,S1,90,-", "FR,French,S1,60,-"], "candidates": ["0000001,Ada Lin,"]})
 
@@ -225,7 +225,7 @@ case("columns-beside-candidates", xlsx(sheet("Candidates", [*CANDIDATES, "Laptop
 case("features-missing", xlsx(sheet("Halls", HALLS[:2], ["A", "Hall A"])), 1, only=True, mistakes=[["Halls!1", "the column features is missing"]])
 case("crosses-beside-one-value", xlsx(sheet("Halls", [*HALLS[:2], "screen"], ["A", "Hall A", "x"])), 1, only=True,
      args=["--columns", "{here}/columns.toml"], beside={"columns.toml": '[halls]\nfeatures = { always = "quiet" }\n'},
-     mistakes=[["Halls!C1", "screen has crosses beside the column features"]])
+     mistakes=[["Halls!C1", "'screen' has crosses", "keep no column features beside it"]])
 case("rooms-without-features", xlsx(candidates(ADA), sheet("Rooms of 2026", HALLS[:2], ["A", "Hall A"])), files={"candidates": [ADA_LINE]},
      told=[["'Rooms of 2026'", "is not read: no row is the header"]])
 case("entries-with-two-names", xlsx(TWO_PAPERS, sheet("Entries", ["number", "Vorname", "Nachname", "paper"], ["0000001", "Ada", "Lin", "MA-1"])),
