@@ -109,9 +109,9 @@ def backup(parser: command.Parser) -> None:
 
 It reads sessions.csv, papers.csv, halls.csv, openings.csv, candidates.csv, arrangements.csv and entries.csv, those that
 are there, and the office's file if there is one. Each mistake is a line: file, line, value, cure. What the program
-takes, though it may be wrong, is a note. Candidates without an access code are counted in one line. What files without
-a mistake would do `office what-if take FOLDER` says, and whether a limit of the office is passed. The status is 1 if
-`office import` would refuse a file for anything else.
+takes, though it may be wrong, is a note. Candidates without an access code are counted in one line. Where nothing is
+wrong it imports them into a private copy of the office, and notes who would lose a desk, miss a paper, sit otherwise or
+be in two sessions at one time. The status is 1 if `office import` would refuse a file.
 """)
 def check_files(parser: command.Parser) -> bool:
     from exam_desk import checking, lists

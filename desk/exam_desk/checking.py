@@ -1,10 +1,12 @@
 """The mistakes of the import files of a folder, before any import: what `office check-files` says, as values."""
 import os
 from collections import Counter
-from collections.abc import Iterator
+from collections.abc import Iterator, Mapping
 
-from exam_desk import files, lists, mistakes, snapshot
+from exam_desk import changing, effects, files, lists, mistakes, snapshot
+from exam_desk.changing import Step
 from exam_desk.office import Office
+from exam_desk.reading import Reading
 
 MOST_SHOWN = 5  # mistakes or notes on one column of a file
 
@@ -45,4 +47,19 @@ def check_folder(office: Office, folder: str) -> tuple[list[str], Counter[str]]:
             lines.append(f"NOTE: {name} is none of the seven names, so it is not looked at")
         elif name.lower().endswith(files.TABLES) and name not in found:
             lines.append(f"NOTE: {name} is a workbook: `office read` makes the files of it")
+    if texts and os.path.exists(office.path) and not counts["mistakes"] + counts["codes"]:
+        refused, met = would_do(office, texts)
+        counts.update(mistakes=len(refused), notes=len(met))
+        lines += [*refused, *(f"NOTE: once imported: {line}" for line in met)]
     return lines, counts
+
+
+def would_do(office: Office, texts: Mapping[str, bytes]) -> tuple[list[str], list[str]]:
+    """What the program refuses of imports into a private copy of the office, and what they would do to candidates."""
+    steps = [Step(("import", kind, f"{kind}.csv"), text) for kind, text in texts.items()]
+    with changing.rehearse(office, steps) as rehearsal:
+        if refused := changing.refused_of(rehearsal.answers):
+            return [f"{refused.step.words[-1]}: {'; '.join(refused.explained(office))}"], []
+        with Reading(office, rehearsal.before) as before, Reading(office, rehearsal.after) as after:
+            met = effects.Effects(before, after)
+            return [], met.said(effects.headlines(met.met), [], MOST_SHOWN)

@@ -78,5 +78,48 @@ class Overlaps(sample.SampleSchool):
         self.assertNotIn("at one time", told)
 
 
+class Files(sample.SampleSchool):
+    def checked(self, status=0, **texts):
+        folder = os.path.join(self.folder, f"files-{len(os.listdir(self.folder))}")
+        os.mkdir(folder)
+        for kind, text in texts.items():
+            self.write(os.path.join(folder, f"{kind}.csv"), text)
+        done = self.run_office("check-files", folder)
+        self.assertEqual((done.returncode, done.stderr), (status, ""), done.stdout)
+        return done.stdout.split("\n")[:-1]
+
+    def test_overlaps(self):
+        before = self.office("export", "MON-AM")
+        lines = self.checked(**FILES)
+        for note in ("2 are in two sessions at one time: T2 0001034 Cy Ferrari; NX 0001000 Ada Lin",
+                     "1 hall has candidates of two sessions at one time: MON-AM and HL in AULA"):
+            self.assertIn(f"NOTE: once imported: {note}", lines)
+        self.assertRegex(lines[-1], f"^5 files, 0 mistakes, {len(lines) - 1} notes?$")
+        self.assertEqual(self.office("export", "MON-AM"), before)
+
+    def test_who_loses_a_desk_or_misses_a_paper(self):
+        rows = (self.examples / "openings.csv").read_text("utf-8").replace("MON-AM,GYM,24", "MON-AM,GYM,2")
+        lines = self.checked(openings=rows, entries="number,paper\n0001000,LAT\n")
+        self.assertRegex(lines[0], r"^NOTE: once imported: \d+ lose their desks: \d+ in MON-AM$")
+        self.assertIn("NOTE: once imported: 1 has a new clash: MON-AM 0001000 Ada Lin", lines)
+
+    def test_what_changes_nothing(self):
+        texts = {kind: (self.examples / f"{kind}.csv").read_text("utf-8") for kind in sample.KINDS}
+        self.assertEqual(self.checked(**texts), ["7 files, 0 mistakes, 0 notes"])
+        os.remove(self.path)
+        self.assertEqual(self.checked(**texts), ["7 files, 0 mistakes, 0 notes"])
+        self.assertFalse(os.path.exists(self.path))
+
+    def test_what_the_program_refuses(self):
+        [line, last] = self.checked(status=1, entries="number,paper\n1000,LAT\n")
+        self.assertIn("write 0001000", line)
+        program = self.write("program", "#!/bin/sh\necho refused 20 >&2\nexit 1\n")
+        os.chmod(program, 0o700)
+        self.environment["EXAMOFFICE"] = program
+        [line, last] = self.checked(status=1, entries="number,paper\n0001000,LAT\n")
+        self.assertRegex(line, "^entries.csv: *a limit would be passed")
+        self.assertEqual(last, "1 file, 1 mistake, 0 notes")
+
+
 if __name__ == "__main__":
     unittest.main()
