@@ -87,8 +87,8 @@ def given(parser: Parser, *words: str) -> argparse.Namespace:
 
 
 def with_reason(words: list[str]) -> list[str]:
-    """The words of a command that ends with a reason; for a `-` the line of standard input that has it, so that it is in
-    no history of a shell. Raises `Trouble` where not one line comes in."""
+    """The words of a command that ends with a reason; for a `-` the line of standard input that has it, so that no
+    history of a shell does. Raises `Trouble` where not one line comes in."""
     if words[-1] != "-":
         return words
     if sys.stdin.isatty():

@@ -35,7 +35,7 @@ def given_source(parser: command.Parser, *words: str) -> Namespace:
 
 
 def read_source(office: Office, given: Namespace) -> Job:
-    """Reads a workbook, or a folder of import files, as the options say, and prints what was changed, and what is wrong.
+    """Reads a workbook, or a folder of import files, as the options say; prints what was changed and what is wrong.
     Raises `Trouble` where it cannot be read."""
     from exam_desk.checking import office_knows
     from exam_desk.workbook import headers, opening, reading, tables, values
@@ -55,7 +55,7 @@ def read_source(office: Office, given: Namespace) -> Job:
     return job
 
 
-@command.named("""Makes the import files from a workbook, or from files that a spreadsheet broke: read WORKBOOK|FOLDER [NEW]
+@command.named("""Makes import files from a workbook, or from files that a spreadsheet broke: read WORKBOOK|FOLDER [NEW]
 
     office read school.xlsx     makes the folder school, with sessions.csv, papers.csv and so on
     office read students.csv new --columns columns.toml
@@ -167,9 +167,9 @@ def dump(parser: command.Parser) -> None:
     office take school.xlsx --codes gives each candidate who has no access code one
     office take facts --yes         without a question, for scripts
 
-It reads as `office read` does; where there is a mistake nothing is changed, and the status is 1. It tries all imports on
-a private copy of the office, and says what each would do and who would lose a desk, move, get one, join or leave. Then
-it imports in order, whole or not at all.
+It reads as `office read` does; where there is a mistake nothing is changed, and the status is 1. It tries all imports
+on a private copy of the office, and says what each would do and who would lose a desk, move, get one, join or leave.
+Then it imports in order, whole or not at all.
 """, changes=True)
 def take(parser: command.Parser) -> command.Plan:
     from commands import programs

@@ -22,8 +22,8 @@ NUMBERED = ["withdraw", "reinstate", "decide"]  # they begin with the number of 
 CHANGES = ["import", "close-hall", MIGRATE, *NUMBERED]
 LIST_HELP = """
 With the entries of a file, whose header is number,paper: office {0} --list FILE.csv
-  Where a number or a paper is not known nothing is changed. A row that is refused is printed, and the others are carried
-  out; `office back` lists the copy that takes all of it back.
+  Where a number or a paper is not known nothing is changed. A row that is refused is printed, and the others are
+  carried out; `office back` lists the copy that takes all of it back.
 """
 ALL_HELP = """
 Each entry that is to come of a candidate who leaves, in the same way: office withdraw NUMBER --all

@@ -23,10 +23,11 @@ OFFICE = b"SQLite format 3\0"  # how its bytes begin
 MOMENT = "{:04}-{:02}-{:02} {:02}:{:02}:{:02}"  # of a file in a zip
 MOST_PARTS = 2000
 MOST_NOTES = 16 << 20  # bytes of a file of a notebook
-NO_OFFICE = "there is no office in it: bring the zip that the page Office hands out, or one of office.db and office.db-wal"
+NO_OFFICE = ("there is no office in it: bring the zip that the page Office hands out, or one of office.db and "
+             "office.db-wal")
 SEVERAL = "there are several offices in it: bring one of them alone"
-ALONE = ("its second file, whose name ends in -wal, is not in it, and can hold the last changes: bring a zip of both; where "
-         "there is no second file an empty one does")
+ALONE = ("its second file, whose name ends in -wal, is not in it, and can hold the last changes: bring a zip of both; "
+         "where there is no second file an empty one does")
 BROKEN = "it is no zip, or broken or cut short: bring it again, or another backup"
 TOO_LARGE = "it is larger than any office"
 UNREADABLE = (zipfile.BadZipFile, zipfile.LargeZipFile, zlib.error, RuntimeError, EOFError, OSError, ValueError)

@@ -50,7 +50,8 @@ def keep_day(office: Office, day: datetime.date) -> str | None:
     if os.path.lexists(beside.folder(office.path, beside.DAYS, day.isoformat())):
         return None
     copy = make(office, beside.DAYS, day.isoformat())
-    for old in sorted(folders(office, beside.DAYS, DAY), key=lambda path: (path == copy, path <= copy, path))[:-MOST_DAYS]:
+    found = sorted(folders(office, beside.DAYS, DAY), key=lambda path: (path == copy, path <= copy, path))
+    for old in found[:-MOST_DAYS]:
         drop(old)
     return copy
 

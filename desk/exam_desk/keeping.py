@@ -278,4 +278,5 @@ def status(office: Office) -> Status:
         fault = f"no answer within {QUESTION_SECONDS} seconds, or more clients than it takes at once"
     means = map(str.strip, refusals.explained(office, ["serve"], fault.rpartition(": ")[2]))
     fault = "it begins, or a command has the office" if fault == "aside" else fault
-    return Status(False, f"process {process} does not serve now: {'; '.join([fault, *means])}; it tries again by itself")
+    why = "; ".join([fault, *means])
+    return Status(False, f"process {process} does not serve now: {why}; it tries again by itself")

@@ -35,7 +35,8 @@ SENTENCES = {
     22: "the machine is out of memory; try again when it has some",
     23: "the database cannot be used now: another process has it; or the file, or its folder, may not be written, by "
         "its permissions or on a full disk; or it has a second name (a hard link, as some backups make: take a copy of "
-        "it), or a -journal lies beside it; or it is a folder, a pipe or no whole database (`office back` lists copies)",
+        "it), or a -journal lies beside it; or it is a folder, a pipe or no whole database (`office back` lists "
+        "copies)",
     24: "the file is not there, or holds no office or one with bad rows; `office check` names the bad table, "
         "`office init` makes a new office, `office back` lists copies",
     25: "the hall is not open for this session; check both codes, or import openings",

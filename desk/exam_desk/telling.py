@@ -1,7 +1,7 @@
 """Who must be told: what members of a session sit, when and where, at two moments of an office.
 
-Somebody sits otherwise only in a session that a row which is another can change. So the program need not be asked of the
-others.
+Somebody sits otherwise only in a session that a row which is another can change. So the program need not be asked of
+the others.
 """
 import contextlib
 import itertools

@@ -107,7 +107,7 @@ def sittings(view: View, query: str) -> set[tuple[str, str]]:
 
 @dataclass(eq=False)
 class Desk:
-    """One office, the address of its pages, and the view that they show; nothing is read where there is no office."""
+    """One office, the address of its pages, and the view that they show; none where there is no office."""
     office: Office
     address: str
     prefix: str
