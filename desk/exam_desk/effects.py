@@ -73,7 +73,7 @@ class Effects:
             HALLS: [Met(each.early, f"and {each.late} in {hall}", "both number their desks from 1")
                     for each, _ in self.overlaps for hall in each.halls],
             PRINTED: on_old_paper(self.out_of_date),
-            CODES: [Met("", person.shown(), "a slip with the old code opens nothing") for person in self.codes]})
+            CODES: [Met("", person.shown(), "needs a new slip") for person in self.codes]})
 
     def said(self, shown: list[str], listing: list[str], most: int | None) -> list[str]:
         """The lines on those whom it meets, between those on second sittings and on sessions and rows; what lists them;

@@ -31,7 +31,8 @@ KINDS = {  # in which ways a change meets people, sessions and halls, the graves
     "gets": ("gets a desk", "get desks"), "leaves": ("leaves a session", "leave a session"),
     "joins": ("joins a session", "join a session"), "misses": ("has other clashes", "have other clashes"),
     "desk": ("has another desk in the same hall", "have other desks in the same hall"),
-    "codes": ("has another access code", "have other access codes"),
+    "codes": ("has another access code, and a slip that opens nothing",
+              "have other access codes, and slips that open nothing"),
 }
 TO_TELL, DESK_ALONE = ("to tell",) * 2, ("with another desk only",) * 2
 

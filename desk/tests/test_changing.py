@@ -484,7 +484,7 @@ class Taking(Changing):
         self.assertEqual((done.returncode, done.stderr), (1, "office: nothing is changed\n"))
         self.assertIn("entries.csv: added 2 changed 0 same 172\n", done.stdout)
         self.assertIn("\n1 joins a session without a desk\n  MON-PM 0009001 Zed: joined: EN-1, ", done.stdout)
-        self.assertIn("\n1 joins a session\nsession MON-AM: ", done.stdout)
+        self.assertIn("\n1 joins a session\n3 without a desk: 3 in MON-PM (before 2)\n", done.stdout)
         self.assertEqual((self.state(), self.kept(), self.log()), (before, [], []))
         self.assertIn("done; ", self.office("take", facts, stdin="y\n"))
         self.assertEqual([os.path.basename(copy).split(" ", 3)[3] for copy in self.kept()], ["take facts"])

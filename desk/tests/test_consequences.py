@@ -181,16 +181,16 @@ class Told(sample.SampleSchool):
         """Of one candidate with the name, of many with the number; and where a copy is put back it is the lost one."""
         rows = [row.split(",") for row in (self.examples / "candidates.csv").read_text("utf-8").split("\n")[:6]]
         one = self.write("one.csv", "\n".join([",".join(rows[0]), f"{rows[1][0]},{rows[1][1]},NEW{rows[1][2]}"]))
-        said = f"1 has another access code: {rows[1][0]} {rows[1][1]}"
+        said = f"1 has another access code, and a slip that opens nothing: {rows[1][0]} {rows[1][1]}"
         self.assertEqual(self.told("import", "candidates", one), [said])
         self.assertEqual(self.told("import", "candidates", one), [])
         self.assertEqual(self.told("back", "1", "--yes"), [said])
         others = [",".join(rows[0]), *(f"{number},{name},NEW{code}" for number, name, code in rows[1:])]
         several = self.write("candidates.csv", "\n".join(others))
         self.assertRegex(self.office("what-if", "import", "candidates", several),
-                         "\n5 have other access codes\n  .*: a slip with the old code opens nothing\n")
+                         "\n5 have other access codes, and slips that open nothing\n  .*: needs a new slip\n")
         [line] = self.told("import", "candidates", several)
-        self.assertTrue(line.startswith("5 have other access codes: 00010") and line.endswith(" and 2 more"), line)
+        self.assertRegex(line, "^5 have other access codes, and slips that open nothing: 00010.* and 2 more$")
 
     def test_printed_papers_are_out_of_date(self):
         """Where a desk is another by the change than on paper; in no other hall, and only if somebody noted them."""

@@ -119,7 +119,7 @@ class TestRefusals(DeskSchool):
         self.assertIn("no second sitting of PH-1", text)
         self.office("second-sitting", "0001051", "LAT", "11:00", "R14", "--yes")
         _, text = self.browser.post("/propose/withdraw", PERSON, 422, **WHO, paper="LAT", key="LAT")
-        self.assertIn(f'<a href="{self.browser.prefix}/candidates/1051">`office withdraw 0001051 LAT-2`</a>', text)
+        self.assertIn("the entry is withdrawn already", text)
 
     def test_too_late(self):
         self.office("lodge", "0001051", "MON-AM", "hall", "PC1", "")

@@ -249,7 +249,7 @@ class Lists(sample.SampleSchool):
         for _ in range(2):
             done = self.run_office("codes", "1051")
             self.assertEqual((done.returncode, done.stdout), (0, "added 0 changed 1 same 0\n"), done.stderr)
-            self.assertEqual(done.stderr, "1 has another access code: 0001051 Di Berg\n")
+            self.assertEqual(done.stderr, "1 has another access code, and a slip that opens nothing: 0001051 Di Berg\n")
             codes += re.findall("0001051 Di Berg, access code (.*)\n", self.office("look", "0001051", "--codes"))
         self.assertEqual(len(set(codes)), 3)
         self.assertEqual([name for name in os.listdir(self.folder) if name.endswith(".csv")], [])

@@ -20,8 +20,8 @@ class Looking(sample.SampleSchool):
         for session in ("TUE-AM", "MON-AM"):
             self.office("printed", session)
         self.run_office("withdraw", "0001000", "MA-1")
-        self.assertRegex(self.office("printed"), "^MON-AM: the papers are out of date for [0-9]+ candidates?; `office "
-                                                 "printed MON-AM --look`\nTUE-AM: the papers are up to date\n$")
+        self.assertEqual(self.office("printed"), "MON-AM: the papers are out of date; `office printed MON-AM --look`\n"
+                                                 "TUE-AM: the papers are up to date\n")
 
     def test_a_rehearsal_names_twenty_of_each_kind(self):
         path = self.write("sessions.csv", "session,date,start\nMON-AM,2027-06-14,09:00\n")
@@ -40,9 +40,9 @@ class Looking(sample.SampleSchool):
                 other.bind(("127.0.0.1", 0))
                 other.listen()
                 port = other.getsockname()[1]
-                self.assertRegex(self.refused("keep", "start", str(port)),
-                                 f"^office: `keep` does not run; the last line of {self.desk}/keep.log: 127.0.0.1 "
-                                 rf"{port} \(process \d+, python3; \d+ is free\) cannot be had: Address already in use\n$")
+                self.assertEqual(self.refused("keep", "start", str(port)),
+                                 f"office: `keep` does not run; the last line of {self.desk}/keep.log: 127.0.0.1 {port} "
+                                 "cannot be had: Address already in use\n")
 
 
 if __name__ == "__main__":

@@ -18,12 +18,13 @@ EVENTS = [  # a command, and what it says first; `{}` stands for a number
     ("back 1 --yes", "2 lose their desks: .."),  # who had one while the paper was moved
     ("import openings fewer.csv", "{} lose their desks: {} in MON-PM"),
     ("back 1 --yes", "{} get desks: {} in MON-PM"),
-    ("import candidates people.csv", "1 has another access code: 0001051 Di Berg; a slip with the old code opens nothing"),
+    ("import candidates people.csv", "1 has another access code, and a slip that opens nothing: 0001051 Di Berg"),
     ("import entries people.csv", "refused 2"),
     ("name 0001051 Berg", "1 has another name: 0001051 Berg"),
-    ("import arrangements need.csv", "1 sits at another time: 0001000 Ada Lin in 2 sessions"),
+    ("import arrangements need.csv",
+     "1 sits at another time (2 sessions): MON-AM 0001000 Ada Lin; MON-PM 0001000 Ada Lin"),
     ("lodge 0001051 MON-PM arrangement - 10 plaster", ""),
-    ("decide 0001051 D1 standing once", "1 sits at another time: 0001051 Berg in 3 sessions"),
+    ("decide 0001051 D1 standing once", "1 sits at another time (3 sessions): MON-AM 0001051 Berg; .."),
     ("close-hall TUE-AM GYM", "{} lose their desks: {} in TUE-AM"),
     ("withdraw --list leave.csv", "1 gets a desk: .."),
 ]

@@ -67,7 +67,7 @@ class WhatIf(test_changing.Changing):
         leave = self.write("leave.csv", "number,paper\n0001017,CS-1\n0001017,MA-1\n")
         before = self.state()
         for words, line in ((["name", "1000", "Ada Lovelace"], r"1 has another name\n  0001000 .*Ada Lovelace"),
-                            (["codes", "1051"], "1 has another access code\n  0001051"),
+                            (["codes", "1051"], "1 has another access code, and a slip that opens nothing\n  0001051"),
                             (["take", facts], "entries.csv: added 2 changed 0 same 172\n"),
                             (["open-hall", "MON-AM", "PC1", "12", "12:30"], "\n1 gets a desk\n")):
             self.assertRegex(self.office("what-if", *words), line)
