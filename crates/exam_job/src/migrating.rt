@@ -1,5 +1,4 @@
 //! The command that brings an office of an earlier version to the newest.
-ghost use Rattle.sqlite.specs.Held.{state};
 ghost use Rattle.exam_job.specs.Migrations as spec;
 
 use crate::lines::migration_line;

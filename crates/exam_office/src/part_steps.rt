@@ -26,7 +26,8 @@ use exam_changes::{
     Undo, close, decide, decided_reply, import_rows, lodge, newly_decided, reinstate, retract,
     withdraw,
 };
-use exam_commands::{Command, Decision, Outcome, Reply, stored_state};
+use exam_commands::granting::is_grant;
+use exam_commands::{Command, Decision, Reply, stored_state};
 use exam_repair::repaired_among;
 use exam_rules::{Facts, Seats, SessionLists};
 use exam_types::{Day, Refusal, SessionCode};
@@ -289,13 +290,11 @@ fn granted_plans(
         sessions.now plans.now.entries) }
     ensures memory { OnlyMemory result }
 {
-    match decision.outcome {
-        Outcome::Grant | Outcome::Standing => {
-            let first = Some(decision.number);
-            Ok(Some(repaired_among(alloc, facts, lists, sessions, plans, first)?))
-        }
-        Outcome::Refuse => Ok(None),
+    if !is_grant(decision.outcome) {
+        return Ok(None);
     }
+    let first = Some(decision.number);
+    Ok(Some(repaired_among(alloc, facts, lists, sessions, plans, first)?))
 }
 
 /// What the command answers; for an appeal with a new decision its state, the appellant's hall, and how many others

@@ -1,19 +1,16 @@
 -- A database that holds a good office of its version is refused only because memory ran out or it could not be used.
-use Rattle.exam_theorem.proofs.Words.{Ghosts, Trees, Database, Held, state, HasCleanDisk, Survives, Refusal}
-use Rattle.exam_theorem.proofs.Words.{ContainsMade, IsVersion, version, FailsToFind, HoldsGood, Keeps, Commits}
-use Rattle.exam_theorem.proofs.Words.{OfficeIn, made_of, BringsOver, IsAccepted}
-use Rattle.std.proofs.Common.{◌≡◌, ◌≢◌, ◌∙◌, ℕ, inl, inr, arith, refl, sym, subst}
-use Rattle.std.specs.Prelude.{IfErr, Result, Ok, Err}
+use Rattle.exam_theorem.proofs.Words.{Ghosts, Trees, Database, Held, state, Refusal, ContainsMade, version}
+use Rattle.exam_theorem.proofs.Words.{FailsToFind, HoldsGood, Keeps, made_of, BringsOver, IsAccepted}
+use Rattle.std.proofs.Common.{◌≡◌, ◌≢◌, ◌∙◌, ℕ, inl, inr, refl, sym, subst}
 use Rattle.sqlite.specs.State.{State}
 use Rattle.sqlite.specs.declared.error.Error.{Error}
 use Rattle.sqlite.specs.declared.error.Error.TheVariants.{SqliteFailure, SqlInputError}
 use Rattle.sqlite.specs.declared.error.ErrorCode.TheVariants.{OutOfMemory}
 use Rattle.sqlite_resolve.specs.declared.error.CompileError.TheVariants.{NoSuchTable, NoSuchColumn}
 use Rattle.exam_types.specs.declared.refusal.Refusal.TheVariants as refusal
-use Rattle.exam_sql.specs.Texts.{load_office}
 use Rattle.exam_commands.specs.State.{State as Office}
 use Rattle.exam_tables.specs.Faults.{refusal_of}
-use Rattle.exam_tables.specs.Loaded.{FailsThen, FailsToLoad, IsLoadRefusal}
+use Rattle.exam_tables.specs.Loaded.{FailsThen, IsLoadRefusal}
 use Rattle.exam_store.specs.Found.{FailsToMigrate, FailsToOpen}
 use Rattle.exam_store.specs.Kept.{HoldsOffice}
 use Rattle.exam_store.specs.Refused.{HoldsFormed, HoldsNone, IsGoodIn}
@@ -46,15 +43,6 @@ formed_again all more office formed held = (
   λ t. record { rises = (formed.0 t).rises; forms = (formed.0 t).forms; same = held.facts t },
   record { rises = formed.1.rises; forms = formed.1.forms; same = held.seats },
 )
-
--- no version was read
-pub version_failed : (old new : State) (None : Type 0) (e : Refusal) → IsAccepted old.now
-    → ((v : ℕ) (all : Trees) → IsVersion v → HoldsGood v old.now all → None → ⊥)
-    → IsLoadRefusal (FailsToLoad load_office old new) None e → IsFailing e
-version_failed old new None e accepted some (inl memory) = inl memory
-version_failed old new None e (v, is, all, good) some (inr (inl fails)) =
-    told_error e fails.0.0 fails.0.1 (fails.1 (all, made_of v old.now all good.0))
-version_failed old new None e (v, is, all, good) some (inr (inr (bad, none))) = absurd (some v all is good none)
 
 module _ {S : Type 0} (g : Ghosts S) where
   -- a load that failed while good tables were there
@@ -111,14 +99,3 @@ module _ {S : Type 0} (g : Ghosts S) where
     pub opening_failed : (new : Held S) (e : Refusal) → IsAccepted old.now → FailsToFind g mid new e → IsFailing e
     opening_failed new e accepted (inl busy) = inr busy.0
     opening_failed new e accepted (inr fails) = let good = brought_good accepted in failed_in new e good.0 good.1 fails
-
-  pub refused_only : (old : State) (mid : Held S)
-      → Commits {A = Unit {0}} {E = Refusal} old (state g mid) (Ok tt) BringsOver
-      → (result : Result (OfficeIn S) (Refusal × Held S))
-      → IfErr result (λ e. Survives (state g mid) (state g e.1) (λ _. ⊥))
-      → IfErr result (λ e. HasCleanDisk (state g e.1) → FailsToFind g mid e.1 e.0)
-      → IfErr result (λ e. HasCleanDisk (state g e.1) → IsAccepted old.now → IsFailing e.0)
-  refused_only old mid made (Ok new) survives fails = tt
-  refused_only old mid made (Err e) survives fails = λ clean accepted.
-      let early : HasCleanDisk (state g mid) = omega (arith, survives.clean, clean) in
-      opening_failed old mid (made.turned early).0 e.1 e.0 accepted (fails clean)

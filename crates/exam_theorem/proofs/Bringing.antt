@@ -1,55 +1,25 @@
 -- An office that is brought to the newest version and opened.
-use Rattle.exam_theorem.proofs.Words.{Ghosts, Trees, Database, Held, state, HasCleanDisk, Survives, Refusal}
-use Rattle.exam_theorem.proofs.Words.{ContainsMade, IsGood, IsInOrder, IsLeft, Commits, HasVersion, IsVersion, version}
-use Rattle.exam_theorem.proofs.Words.{HoldsGood, HasDays, OfficeIn, made_of, KeepsIt, BringsOver, HasOffice, IsAtRest}
+use Rattle.exam_theorem.proofs.Words.{Ghosts, Trees, Database, HasCleanDisk, Survives, Refusal, IsInOrder, IsLeft}
+use Rattle.exam_theorem.proofs.Words.{state, Commits, HasDays, OfficeIn, KeepsIt, BringsOver, HasOffice, IsAtRest}
 use Rattle.exam_theorem.proofs.Words.{IsVersioned, RestsOn, StopsWith}
-use Rattle.std.proofs.Common.{◌≡◌, ◌≢◌, ◌⊎◌, ◌∙◌, ℕ, inl, inr, arith, refl, sym, ap, subst}
-use Rattle.std.specs.Prelude.{Result, Ok, Err, IsTrue, IfOk, IfErr}
-use Rattle.sqlite.specs.State.{State, IsUnchanged}
-use Rattle.sqlite.proofs.StateLemmas.{survives_weaker}
+use Rattle.std.proofs.Common.{◌≡◌, ◌∙◌, ℕ, inl, inr, arith, sym, ap, subst}
+use Rattle.std.specs.Prelude.{Result, Ok, Err, IsTrue}
+use Rattle.sqlite.specs.State.{State}
 use Rattle.exam_commands.specs.State.{State as Office}
-use Rattle.exam_tables.specs.Inside.{IsOurs}
-use Rattle.exam_tables.proofs.Committing.{commits_at, then_commits}
-use Rattle.exam_tables.proofs.RowByRow.{survives_itself}
+use Rattle.exam_tables.proofs.Committing.{commits_ok, commits_weaker}
 use Rattle.exam_store.specs.Found.{Finds, Migrates}
-use Rattle.exam_store.proofs.Marking.{still_made}
-use Rattle.exam_theorem.proofs.Having.{committed_found, good_has, keeps_found, keeps_has}
-use Rattle.exam_theorem.proofs.Having.{old_had, older_brings, same_found}
+use Rattle.exam_theorem.proofs.Having.{committed_found, keeps_found, keeps_has, migrates_brings, same_found}
 
 -- ---- one transaction or none
 
--- nothing was done
-pub nothing_commits : (s : State) (e : Refusal) (T : Database → Database → Type 0)
-    → Commits {A = Unit {0}} s s (Err e) T
-nothing_commits s e T = record {
-  turned = λ clean. tt;
-  same = λ sound. (refl, refl);
-  was_open = λ sound. sound.1;
-  settled = λ clean. tt;
-  survives = survives_weaker s s _ _ (λ clean trees none. absurd none) (survives_itself s);
-}
+-- whatever a migration returns, it brings over what it had
+pub brought : {A : Type 0} (old new : State) (result : Result A Refusal) → Commits old new result Migrates
+    → Commits old new result BringsOver
+brought old new result = commits_weaker old new result Migrates BringsOver migrates_brings
 
-module _ (old mid new : State) (v : ℕ) (same : HasCleanDisk mid → IsUnchanged old mid)
-    (first : Survives old mid (λ _. ⊥))
-    (named : HasCleanDisk mid → (all : Trees) → ContainsMade old.now all → HasVersion v all) (older : v ≢ version) where
-  -- an office of an older version is migrated
-  pub migrated : {A : Type 0} (result : Result A Refusal) → Commits mid new result Migrates
-      → Commits old new result BringsOver
-  migrated result made =
-      let whole = then_commits old mid new result Migrates same first made in
-      commits_at old new result Migrates BringsOver
-      (λ clean db migrates. older_brings old.now v
-      (named (omega (arith, made.survives.clean, clean))) db older migrates) whole
-
-  -- the office that was there
-  pub migrated_had : (answered : ℕ × ℕ) → IsVersion answered.0 → (HasCleanDisk new → HasCleanDisk mid)
-      → (HasCleanDisk new → (all : Trees) → ContainsMade mid.now all → HoldsGood answered.0 mid.now all)
-      → HasCleanDisk new → IsVersioned old.now → (office : Office) × HasOffice old.now office
-  migrated_had answered is early good clean (w, is_w, all, contains, has) =
-      let unchanged = same (early clean) in
-      let there = still_made old mid all unchanged (made_of w old.now all contains) in
-      let had = good_has answered.0 mid.now all is (good clean all there) in
-      (had.0, subst (λ (db : Database). HasOffice db had.0) unchanged.0.now_is had.1)
+pub brought_over : (old new : State) (versions : ℕ × ℕ) → Commits {E = Refusal} old new (Ok versions) Migrates
+    → Commits {A = Unit {0}} {E = Refusal} old new (Ok tt) BringsOver
+brought_over old new versions made = commits_ok old new versions tt BringsOver (brought old new (Ok versions) made)
 
 -- ---- a stop, and what stays
 
@@ -118,69 +88,36 @@ module _ (old mid : State) (made : Commits {A = Unit {0}} {E = Refusal} old mid 
       ]
 
 module _ {S : Type 0} (g : Ghosts S) (old mid : State)
-    (made : Commits {A = Unit {0}} {E = Refusal} old mid (Ok tt) BringsOver) where
-  early : (new : OfficeIn S) → Finds mid (state g new.database) new.office → HasCleanDisk (state g new.database)
-      → HasCleanDisk mid
-  early new finds clean = omega (arith, finds.survives.clean, clean)
+    (made : Commits {A = Unit {0}} {E = Refusal} old mid (Ok tt) BringsOver) (new : OfficeIn S)
+    (finds : Finds mid (state g new.database) new.office) where
+  early : HasCleanDisk (state g new.database) → HasCleanDisk mid
+  early clean = omega (arith, finds.survives.clean, clean)
 
-  abbrev Opened : Type 0
-  Opened = Result (OfficeIn S) (Refusal × Held S)
+  same_opened : HasCleanDisk (state g new.database) → (office : Office) → HasOffice old.now office
+      → new.office ≡ office
+  same_opened clean =
+      same_found old mid (state g new.database) (made.turned (early clean)).0 new.office finds clean
 
-  -- what opening found
-  abbrev Found : Opened → Type 0
-  Found result = IfOk result (λ new. Finds mid (state g new.database) new.office)
+  pub opened_had : (HasCleanDisk mid → IsVersioned old.now → (office : Office) × HasOffice old.now office)
+      → HasCleanDisk (state g new.database) → IsVersioned old.now → HasOffice old.now new.office
+  opened_had had clean versioned =
+      let it = had (early clean) versioned in subst (HasOffice old.now) (sym (same_opened clean it.0 it.1)) it.1
 
-  abbrev AreGood : Opened → Type 0
-  AreGood result = IfOk result (λ new. IsGood new.office × IsInOrder new.office)
-
-  pub opened_had : (HasCleanDisk mid → IsVersioned old.now
-      → ((office : Office) × HasOffice old.now office) ⊎ (IsOurs old.now × (mid.now ≡ old.now))) → (result : Opened)
-      → Found result → AreGood result
-      → IfOk result (λ new. HasCleanDisk (state g new.database) → IsVersioned old.now → HasOffice old.now new.office)
-  opened_had had (Ok new) finds good = λ clean versioned.
-      let calm = early new finds clean in
-      old_had mid (state g new.database) new.office finds clean old (made.turned calm).0 good.1 (had calm versioned)
-  opened_had had (Err e) finds good = tt
-
-  same_opened : (new : OfficeIn S) → Finds mid (state g new.database) new.office → IsInOrder new.office
-      → HasCleanDisk (state g new.database) → (office : Office) → HasOffice old.now office
-      → (new.office ≡ office) × IsAtRest g new
+  pub opened_same : IsInOrder new.office → HasCleanDisk (state g new.database) → (office : Office)
+      → HasOffice old.now office → (new.office ≡ office) × IsAtRest g new
   unfolding KeepsIt
-  same_opened new finds order clean office has =
-      let calm = early new finds clean in
-      let turned = made.turned calm in
-      let same : new.office ≡ office =
-      same_found mid (state g new.database) new.office finds clean old turned.0 office has in (
+  opened_same order clean office has =
+      let turned = made.turned (early clean) in
+      let same = same_opened clean office has in (
         same,
         record {
           is_open = (finds.same clean).0.is_open;
           kept = (
-            keeps_found mid (state g new.database) new.office finds clean old turned.0
+            keeps_found old mid (state g new.database) turned.0 new.office finds clean
                 (subst (HasOffice old.now) (sym same) has),
-            committed_found mid (state g new.database) new.office finds clean old turned.0 turned.1,
+            committed_found old mid (state g new.database) turned.0 new.office finds clean turned.1,
           );
           order = order;
           days = subst (λ (o : Office). HasDays o.relations) (sym same) has.days;
         },
       )
-
-  pub opened_same : (result : Opened) → Found result → AreGood result
-      → IfOk result (λ new. HasCleanDisk (state g new.database) → (office : Office) → HasOffice old.now office
-      → (new.office ≡ office) × IsAtRest g new)
-  opened_same (Ok new) finds good = λ clean office has. same_opened new finds good.1 clean office has
-  opened_same (Err e) finds good = tt
-
-  pub opened_stopped : (result : Opened) → Found result → IfOk result (λ new. StopsWith old (state g new.database))
-  opened_stopped (Ok new) finds = opened_stops old mid made (state g new.database) finds.survives
-  opened_stopped (Err e) finds = tt
-
-  pub refused_stopped : (result : Opened) → IfErr result (λ e. Survives mid (state g e.1) (λ _. ⊥))
-      → IfErr result (λ e. StopsWith old (state g e.1))
-  refused_stopped (Ok new) survives = tt
-  refused_stopped (Err e) survives = opened_stops old mid made (state g e.1) survives
-
-  pub refused_left : (result : Opened) → IfErr result (λ e. Survives mid (state g e.1) (λ _. ⊥))
-      → IfErr result (λ e. HasCleanDisk (state g e.1) → IsLeft mid (state g e.1))
-      → IfErr result (λ e. RestsOn old (state g e.1))
-  refused_left (Ok new) survives left = tt
-  refused_left (Err e) survives left = opened_rests old mid made (state g e.1) survives left

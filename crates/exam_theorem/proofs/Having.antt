@@ -1,19 +1,18 @@
 -- The office that a database has: in the newest version, and once it was brought there and opened.
-use Rattle.exam_theorem.proofs.Words.{Trees, Database, HasCleanDisk, ContainsMade, IsInOrder, HasVersion, IsVersion}
-use Rattle.exam_theorem.proofs.Words.{version, HoldsGood, Keeps, HasDays, made_of, BringsOver, HasOffice, IsVersioned}
-use Rattle.std.proofs.Common.{◌≡◌, ◌≢◌, ◌⊎◌, ◌∙◌, ℕ, inl, inr, refl, sym, subst}
+use Rattle.exam_theorem.proofs.Words.{Trees, Database, HasCleanDisk, IsInOrder, HasVersion, IsVersion, version}
+use Rattle.exam_theorem.proofs.Words.{Keeps, HasDays, made_of, BringsOver, HasOffice, IsVersioned}
+use Rattle.std.proofs.Common.{◌≡◌, ◌∙◌, ℕ, inl, inr, refl, sym, subst}
 use Rattle.exam_rules.specs.Orders.{AreInOrder}
 use Rattle.exam_rules.specs.Tables as table
 use Rattle.sqlite.specs.State.{State}
 use Rattle.exam_commands.specs.State.{State as Office}
-use Rattle.exam_tables.specs.Inside.{IsOurs}
 use Rattle.exam_tables.specs.Versions.{ContainsOf}
-use Rattle.exam_store.specs.Found.{Finds, Migrates}
+use Rattle.exam_store.specs.Found.{Finds, HadGood, Migrates}
 use Rattle.exam_store.specs.Kept.{KeepsIn}
 use Rattle.exam_store.specs.Refused.{HoldsFormed}
 use Rattle.exam_store.proofs.DaysKept.{formed_days}
 use Rattle.exam_store.proofs.FormedRows.{same_office}
-use Rattle.exam_store.proofs.Marking.{no_older, of_newest, one_version}
+use Rattle.exam_store.proofs.Marking.{of_newest}
 use Rattle.exam_store.proofs.Rekeeping.{held_office}
 
 -- ---- the office of tables
@@ -44,11 +43,6 @@ formed_has v db all office is contains has formed = record {
   days = formed_days all office formed;
 }
 
--- the good office of a version
-pub good_has : (v : ℕ) (db : Database) (all : Trees) → IsVersion v → HoldsGood v db all
-    → (office : Office) × HasOffice db office
-good_has v db all is good = (good.2, formed_has v db all good.2 is good.0 good.1 good.3)
-
 -- ---- the newest version
 
 pub keeps_has : (db : Database) (office : Office) → Keeps db office → IsInOrder office → HasDays office.relations
@@ -69,66 +63,37 @@ keeps_has db office keeps order days = record {
 newest_keeps : (db : Database) (office : Office) → KeepsIn version db office → Keeps db office
 newest_keeps db office was = record { all = was.all; contains = was.contains.0; version = was.version; held = was.held }
 
--- the number of tables that name a version
-module _ (db : Database) (v : ℕ) (named : (all : Trees) → ContainsMade db all → HasVersion v all) where
-  pub number_is : (w : ℕ) (all : Trees) → ContainsOf w db all → HasVersion w all → v ≡ w
-  number_is w all contains has = one_version v w all (named all (made_of w db all contains)) has
+-- what is migrated keeps what it had, whichever version that was in
+pub migrates_brings : (old new : Database) → Migrates old new → BringsOver old new
+migrates_brings old new migrates office has = by has.is_version
+  where
+    by : IsVersion has.number → Keeps new office
+    by (inl before) = migrates.kept has.number before office has.kept
+    by (inr is) =
+        let was = subst (λ w. KeepsIn w old office) is has.kept in
+        let same = migrates.same was.all (made_of version old was.all was.contains) was.version in
+        subst (λ (db : Database). Keeps db office) (sym same) (newest_keeps old office was)
 
-  -- tables of the newest version keep what they have
-  pub newest_brings : v ≡ version → BringsOver db db
-  newest_brings newest office has = by has.is_version
-    where
-      number : v ≡ has.number
-      number = number_is has.number has.kept.all has.kept.contains has.kept.version
-
-      by : IsVersion has.number → Keeps db office
-      by (inl older) = absurd (no_older has.number older (sym number ∙ newest))
-      by (inr is) = newest_keeps db office (subst (λ w. KeepsIn w db office) is has.kept)
-
-  -- tables of an older version are migrated
-  pub older_brings : (new : Database) → v ≢ version → Migrates db new → BringsOver db new
-  older_brings new older migrates office has = by has.is_version
-    where
-      by : IsVersion has.number → Keeps new office
-      by (inl before) = migrates.kept has.number before office has.kept
-      by (inr is) = absurd (older (number_is has.number has.kept.all has.kept.contains has.kept.version ∙ is))
-
-  -- tables of the newest version are the eleven tables
-  pub newest_ours : v ≡ version → IsVersioned db → IsOurs db
-  newest_ours newest (w, is, all, contains, has) =
-      let same : w ≡ version = sym (number_is w all contains has) ∙ newest in
-      (all, (subst (λ n. ContainsOf n db all) same contains).0)
+-- the office of the version that a migration found
+pub good_had : (db : Database) (v : ℕ) → IsVersion v → HadGood db v → IsVersioned db
+    → (office : Office) × HasOffice db office
+good_had db v is had (w, is_w, all, contains, has) =
+    let good = had.good all (made_of w db all contains) in
+    (good.2, formed_has v db all good.2 is good.0 good.1 good.3)
 
 -- ---- what is opened
 
-module _ (mid new : State) (found : Office) (finds : Finds mid new found) (clean : HasCleanDisk new) where
-  -- the office that the newest tables keep is found
-  pub kept_found : (office : Office) → Keeps mid.now office → IsInOrder office → HasDays office.relations
-      → found ≡ office
-  kept_found office keeps order days =
-      same_office keeps.all found office (finds.formed clean keeps.all keeps.contains) keeps.held order days
+module _ (old mid new : State) (brings : BringsOver old.now mid.now) (found : Office) (finds : Finds mid new found)
+    (clean : HasCleanDisk new) where
+  -- the office that was there is found, whichever version it was in
+  pub same_found : (office : Office) → HasOffice old.now office → found ≡ office
+  same_found office has =
+      let keeps = brings office has in
+      same_office keeps.all found office (finds.formed clean keeps.all keeps.contains) keeps.held has.order has.days
 
-  -- the one that is found is that of the tables
-  pub found_has : IsOurs mid.now → IsInOrder found → HasOffice mid.now found
-  found_has ours order =
-      keeps_has mid.now found (finds.kept clean ours) order
-      (formed_days ours.0 found (finds.formed clean ours.0 ours.1))
+  -- the opened database keeps it
+  pub keeps_found : HasOffice old.now found → Keeps new.now found
+  keeps_found has = subst (λ (db : Database). Keeps db found) (sym (finds.same clean).0.now_is) (brings found has)
 
-  module _ (old : State) (brings : BringsOver old.now mid.now) where
-    -- whichever version it was in
-    pub same_found : (office : Office) → HasOffice old.now office → found ≡ office
-    same_found office has = kept_found office (brings office has) has.order has.days
-
-    pub old_had : IsInOrder found
-        → ((office : Office) × HasOffice old.now office) ⊎ (IsOurs old.now × (mid.now ≡ old.now))
-        → HasOffice old.now found
-    old_had order (inl had) = subst (HasOffice old.now) (sym (same_found had.0 had.1)) had.1
-    old_had order (inr ours) =
-        subst (λ (db : Database). HasOffice db found) ours.1 (found_has (subst IsOurs (sym ours.1) ours.0) order)
-
-    -- the opened database keeps it
-    pub keeps_found : HasOffice old.now found → Keeps new.now found
-    keeps_found has = subst (λ (db : Database). Keeps db found) (sym (finds.same clean).0.now_is) (brings found has)
-
-    pub committed_found : mid.committed ≡ mid.now → new.committed ≡ new.now
-    committed_found settled = let same = finds.same clean in same.0.committed_is ∙ settled ∙ sym same.0.now_is
+  pub committed_found : mid.committed ≡ mid.now → new.committed ≡ new.now
+  committed_found settled = let same = finds.same clean in same.0.committed_is ∙ settled ∙ sym same.0.now_is

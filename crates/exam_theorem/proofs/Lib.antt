@@ -17,5 +17,4 @@ mod SettledSheets
 mod Bringing
 mod Living
 mod Accepting
-mod Refused
 pub mod Words

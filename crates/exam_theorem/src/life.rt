@@ -1,53 +1,20 @@
 //! The whole life of an office, from a database of any version.
-ghost use Rattle.std.specs.Prelude.{◌≡◌, ◌⊎◌, map, IfOk, IfErr, IsTrue, OnErr, OnOk, string_bytes};
+ghost use Rattle.std.specs.Prelude.{◌≡◌, map, IfOk, IfErr, OnErr, string_bytes};
 ghost use Rattle.sqlite.specs.Held.{state};
-ghost use Rattle.sqlite.specs.State.{HasCleanDisk};
 ghost use Rattle.exam_rules.specs.Relations.{Code};
 ghost use Rattle.exam_commands.specs.Good.{IsGood};
 ghost use Rattle.exam_commands.specs.Headline.{IsSeated};
-ghost use Rattle.exam_commands.specs.State.{State};
-ghost use Rattle.exam_tables.specs.Faults.{is_store_refusal};
-ghost use Rattle.exam_tables.specs.Inside.{IsOurs};
-ghost use Rattle.exam_tables.specs.Transactions.{Commits};
-ghost use Rattle.exam_store.specs.Found.{FailsToMigrate};
 ghost use Rattle.exam_theorem.specs.Life.{EndsAlike, GoesOn, HadFirst, HasItsTables, LivesFrom};
 ghost use Rattle.exam_theorem.specs.Orders.{sheet_asked, shown};
-ghost use Rattle.exam_theorem.specs.Resting.{BringsOver, HadOffice, HasOffice, IsAccepted, IsFailing, IsVersioned};
-ghost use Rattle.exam_theorem.specs.Resting.{OpensIt, RefusesCarrying, StopsWith};
+ghost use Rattle.exam_theorem.specs.Resting.{HadOffice, OpensIt, RefusesCarrying, StopsWith};
 
 use crate::orders::Order;
 use crate::printing::{EndOfDay, print_after};
 use exam_store::{Store, migrate};
-use exam_tables::{NEWEST, version_of};
 use exam_types::Refusal;
 use sqlite::{Alter, Connection};
 use std::alloc::Global;
 use std::io::Write;
-
-/// Brings the office in the database to the newest version, if it is of an older one, in one transaction or not at all.
-/// Refused with `Store` also if a transaction is already open.
-fn bring_over<S: Alter>(alloc: Global, conn: &mut Connection<S>) -> Result<(), Refusal>
-    ensures made { Commits (state S.Store conn.old) (state S.Store conn.new) result BringsOver }
-    ensures had { HasCleanDisk (state S.Store conn.new) → OnOk result (IsVersioned (state S.Store conn.old).now
-        → ((office : State) × HasOffice (state S.Store conn.old).now office)
-        ⊎ (IsOurs (state S.Store conn.old).now
-        × ((state S.Store conn.new).now ≡ (state S.Store conn.old).now))) }
-    ensures why { HasCleanDisk (state S.Store conn.new)
-        → IfErr result (FailsToMigrate S.Store conn.old conn.new) }
-    ensures only { HasCleanDisk (state S.Store conn.new)
-        → IfErr result (λ e. IsAccepted (state S.Store conn.old).now → IsFailing e) }
-    ensures told { IfErr result (λ e. IsTrue (is_store_refusal e)) }
-{
-    if !conn.is_autocommit() {
-        return Err(Refusal::Store);
-    }
-    let version = version_of(conn)?;
-    if version.number == NEWEST.number {
-        return Ok(());
-    }
-    migrate(alloc, conn)?;
-    Ok(())
-}
 
 /// Brings the office in the database to the newest version, if it is of an older one, and opens it. A refusal returns
 /// the connection. The database then has the office that it had, in its old version or in the newest.
@@ -61,8 +28,8 @@ pub fn carry_over<S: Alter>(
     ensures good { IfOk result (λ store. IsGood store.office) }
     ensures refused { IfErr result (λ e. RefusesCarrying S.Store conn e.1 e.0) }
 {
-    match bring_over(alloc, &mut conn) {
-        Ok(()) => Store::open(alloc, conn),
+    match migrate(alloc, &mut conn) {
+        Ok(_) => Store::open(alloc, conn),
         Err(refusal) => Err((refusal, conn)),
     }
 }

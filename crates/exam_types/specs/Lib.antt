@@ -9,7 +9,7 @@
 --   +, or -; the empty set, which set holds another, equality, the sum by which a set is stored
 -- - FeatureSums: a mask is the sum of the set that it represents (used only by the type of sets)
 -- - Texts: what a name and a reason are: 1 to 80 and 0 to 200 bytes of UTF-8 with no control
---   character
+--   character below U+0080
 -- - Days: the calendar from 2000 to 2199: leap years, lengths of months, the civil date of a day
 --   number, its text
 -- - Refusals: the numbers by which refusals are printed; a call that refuses for memory alone
