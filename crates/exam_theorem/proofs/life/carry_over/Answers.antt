@@ -85,6 +85,7 @@ returns-in-Err-clause-refused g c =
           (λ trees is may. g.met.S.Store.settled c.args.conn.store trees is may);
       why = λ clean. inl (it.refused clean).refusal;
       only = λ clean accepted.
-          migration_failed g.S.Store c.args.conn c.migrate.new.conn c.in-Err.refusal accepted (it.refused clean).refusal;
+          migration_failed g.S.Store c.args.conn c.migrate.new.conn c.in-Err.refusal accepted
+          (it.refused clean).refusal;
       told = opens_as c.in-Err.refusal it.told;
     }
