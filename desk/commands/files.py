@@ -134,8 +134,11 @@ with a letter; none is made twice. Candidates who have none get theirs by `offic
 def codes(parser: command.Parser) -> command.Plan:
     from commands import programs
     from exam_desk import coding
+    parser.usage = "office codes NUMBER ..   (the codes that are missing: office take WORKBOOK|FOLDER --codes)"
     parser.add_argument("numbers", metavar="NUMBER", type=typed.number, nargs="+")
     numbers = parser.parse_args().numbers
+    if wrong := typed.wrong(["number"] * len(numbers), numbers):
+        parser.error("; ".join(wrong))
     step = coding.other_rows(command.existing_office(), numbers)
     return programs.Change(steps=[step], title=" ".join(["codes", *numbers]))
 

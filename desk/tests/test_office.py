@@ -189,6 +189,17 @@ class Words(sample.SampleSchool):
         self.assertEqual(done.stderr, "line not understood\n  `office --help` lists the commands\n")
         self.assertEqual(done.returncode, 2)
 
+    def test_commands_of_version_1_0_0_lead_on(self):
+        codes = "the codes that are missing: office take WORKBOOK|FOLDER --codes)\noffice codes: error: "
+        for words, said in ((["print-session", "MON-AM", "--lines", "66"], "gone: `office doors`, `counts` and `look --cl"),
+                            (["session-page", "MON-AM"], "gone: `office desk` shows a session in a browser, `office why`"),
+                            (["check-shortage", "--help"], "gone: `office why SESSION` adds the printed shortage up\n"),
+                            (["codes", "candidates.csv"], f"{codes}number 'candidates.csv': seven digits\n"),
+                            (["codes", "a.csv", "--output", "b.csv"], codes), (["codes"], codes)):
+            done = self.run_office(*words)
+            self.assertEqual(done.returncode, 2)
+            self.assertIn(said, done.stderr)
+
     def test_which_word_is_wrong(self):
         for words, *said in ((["withdraw", "0001051", "math1"], "paper 'math1': write MATH1 (1 to 12 of A-Z, 0-9 and -)"),
                              (["withdraw"], "number is missing", "paper is missing"),
