@@ -79,6 +79,7 @@ browser, by name: number, days, times with the own finish, papers and halls by t
 """)
 def slips(parser: command.Parser) -> None:
     from exam_desk import files
+    from exam_desk.reading import of_few
     from exam_desk.sheets import slips
     parser.add_argument("--only", action="append", default=[], metavar="NUMBER", type=typed.candidate_number,
                         help="this candidate; may be given again")
@@ -89,6 +90,9 @@ def slips(parser: command.Parser) -> None:
         files.read(given.order, command.warn), given.order, *slips.GROUP)
     choice = slips.Choice(given.session, given.only, given.codes, given.desks, groups)
     make = slips.csv_text if given.csv else slips.page
+    if choice.only:
+        command.say_private(of_few(command.office(), lambda reading: make(reading, choice)))
+        return
     with command.reading() as reading:
         command.say_private(make(reading, choice))
 
@@ -159,6 +163,7 @@ Entries with seats, arrangements, and appeals with reasons and answers.
 """)
 def look(parser: command.Parser) -> None:
     from exam_desk import facts
+    from exam_desk.reading import of_few
     from exam_desk.sheets import texts
     parser.add_argument("words", nargs="*", metavar="NAME|NUMBER|SESSION")
     given = command.given(parser, "--codes: with the access code", "--clashes: who has two papers at once")
@@ -168,8 +173,7 @@ def look(parser: command.Parser) -> None:
                      for line in texts.papers_at_once(reading, head["code"])] or ["nobody has two papers at once"]
     elif given.words:
         asked = " ".join(given.words)
-        with command.reading() as reading:
-            lines = texts.asked_lines(reading, asked, given.codes)
+        lines = of_few(command.office(), lambda reading: texts.asked_lines(reading, asked, given.codes))
     else:
         parser.error("name a candidate")
     command.say_lines(lines, is_private=True)
