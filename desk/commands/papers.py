@@ -68,6 +68,47 @@ def summary(parser: command.Parser) -> None:
 
 
 @command.named("""\
+Prints the door lists, the attendance sheets and the clash list of a session as text: print-session SESSION | lp
+
+Each sheet is as the program prints it, from one state of the office, and begins a new page. They are made from what the
+program answers for each candidate; a dozen are compared with its own, and where one differs, nothing is printed. The
+heading stands on each page again, and a line that is too long goes on in the next, indented. A hall in which nobody
+sits has no sheet, nor has a paper that nobody sits.
+""")
+def print_session(parser: command.Parser) -> None:
+    from exam_desk.sheets import printing
+    parser.add_argument("--lines", type=int, default=60, help="of a page, 60 if not given")
+    parser.add_argument("--columns", type=int, default=76, help="of a line, 76 if not given")
+    given = command.given(parser, "session")
+    if given.lines < 10 or given.columns < 40:
+        raise Trouble("a page has 10 lines of 40 letters at least")
+    with command.reading() as reading:
+        command.say(printing.text(reading, given.session, given.lines, given.columns, command.progress))
+
+
+@command.named("""\
+Writes one page of a session, with its shortage, clashes and appeals: session-page SESSION >mon-am.html
+
+The page needs no other file, and prints on A4. The shortage is the program's sheet; of those without a desk the page
+says why, hall by hall. All is of one state of the office. If the program refuses the sheet, nothing is written.
+""")
+def session_page(parser: command.Parser) -> bool:
+    from exam_desk.sheets.session_page import Page
+    given = command.given(parser, "session")
+    with command.reading() as reading:
+        page = Page(reading, given.session)
+        command.say_private(page.document())
+    return warned(page.faults)
+
+
+def warned(faults: list[str]) -> bool:
+    """Says in what the printed shortage differs, and whether it does."""
+    for fault in faults:
+        command.warn(f"the printed shortage says otherwise: {fault}")
+    return bool(faults)
+
+
+@command.named("""\
 Prints a slip of paper for each candidate, to be cut out and handed over: slips [SESSION ..] >slips.html
 
     office slips >slips.html                          everybody, all sessions
@@ -218,6 +259,4 @@ def why(parser: command.Parser) -> bool:
         helpful = [] if number else remedies.lines(reading.rows, found, printed)
     command.say_private(found.text(number))
     command.say_lines(helpful)
-    for fault in faults:
-        command.warn(f"the printed shortage says otherwise: {fault}")
-    return bool(faults)
+    return warned(faults)

@@ -318,8 +318,8 @@ class Days(sample.SampleSchool):
         os.chmod(self.desk, 0o700)
         for name in names:
             os.mkdir(os.path.join(days, name), 0o700)
-        with mock.patch("exam_desk.keeping.say"), mock.patch("exam_desk.copies.MOST_DAYS", 2):
-            keeping.Keep.keep_day(mock.Mock(office=self.value, day=self.value.today()))
+        with mock.patch("exam_desk.keeping.say"):
+            keeping.Keep.keep_day(mock.Mock(office=self.value, day=self.value.today(), days=2))
         self.assertEqual(sorted(os.listdir(days)), sorted([*names[2:], sample.TODAY]))
 
 
