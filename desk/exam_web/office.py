@@ -13,7 +13,7 @@ from werkzeug.wrappers import Response
 
 from exam_desk import backups, changing, copies, facts, keeping, logbook, notebook, turns
 from exam_desk.office import Stale, Trouble
-from exam_web.desk import View, Wrong, archive, at_field, desk, lead, office, once, sums, tell_papers, view
+from exam_web.desk import View, Wrong, archive, as_known, at_field, desk, lead, office, once, sums, tell_papers, view
 from exam_web.proposals import MOST_ROWS, Effects, copy_key
 from exam_web.wording import said, text
 
@@ -131,7 +131,7 @@ def school() -> Response:
     """Keeps the name of the school, which stands on its papers, or takes it away."""
     name = request.form.get("name", "").strip()
     with at_field(("office.page", {}), "name"):
-        notebook.set_school_name(office(), name)
+        notebook.set_school_name(office(), as_known(name, notebook.school_name(desk().office)))
     tell_papers()
     told = text("The papers of the school have its name now.") if name else text("The school has no name now.")
     return lead("office.page", told)

@@ -184,7 +184,8 @@ def work(plan: Plan, task: Callable[[Plan, Desk, Office], None]) -> None:
             with here.rehearsing:
                 task(plan, here, who)
         except (Trouble, OSError, sqlite3.Error) as fault:
-            plan.against = [str(fault)]
+            plan.against, about = [str(fault)], getattr(fault, "about", "")
+            plan.fields |= {TROUBLE: about} if about else {}
         except Exception:
             plan.against = [WRONG_DESK]
             raise
