@@ -63,6 +63,7 @@ class Upload:
     is_called_list: bool = False  # a file, or a sheet of entries, is called withdrawals or reinstatements
     notes: list[Markup] = field(default_factory=list)
     mistakes: int = 0  # that the last look found
+    corrected: int = 0  # how often: lines of a page from before are those of other rows
     is_imported: bool = False
     when: str = field(default_factory=lambda: datetime.datetime.now().isoformat(" ", "minutes"))
 
@@ -318,7 +319,10 @@ def look(key: str) -> str:
 def correct(key: str) -> Response:
     """Values typed beside mistakes, or all cures that are clear; the officer's own files stay as they are."""
     found: Upload = g.visit.uploads.get(key) or abort(404)
-    rows = 0
+    if request.form.get("corrected", found.corrected, int) != found.corrected:
+        told = text("Nothing is corrected: the rows are others than the page showed. This is how they stand now.")
+        return lead("files.look", told, "bad", key=key)
+    rows, found.corrected = 0, found.corrected + 1
     for kind, looked in looked_through(found).items():
         found.texts[kind], others = corrected(kind, found.texts[kind], looked.faults, request.form)
         rows += others

@@ -534,6 +534,15 @@ class TestFiles(Uploads):
         self.assertIn('"Ann\tLee","K4WBN7RTQD"\n"0012002","Bo","K4WBN7RTQE"', self.browser.ask(
             "GET", page + "/candidates.csv")[1])
 
+    def test_a_page_from_before_a_correction_corrects_nothing(self):
+        """Behind a row that is left out, what was line 4 is line 3."""
+        page = self.upload(("halls.csv", HALLS + b"R20,Other,-\nR21,Room,PC\nR22,Room,PX\n"))
+        was = re.search('name="corrected" value="([^"]*)"', self.browser.get(page))[1]
+        self.browser.post(page + "/correct", page, corrected=was, **{"halls:3:row": "drop"})
+        self.browser.post(page + "/correct", page, corrected=was, **{"halls:4:features": "computer"})
+        self.assertIn("Nothing is corrected: the rows are others", self.browser.words(page))
+        self.assertRegex(self.browser.ask("GET", page + "/halls.csv")[1], 'PC"\n.*"PX"')
+
     def test_broken_files(self):
         for name, content in (("a.xlsx", b"PK"), ("a.ods", b"\x00" * 99), ("x.csv", b"\xff\xfe\x00"),
                               ("entries.csv", b""),

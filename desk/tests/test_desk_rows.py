@@ -49,6 +49,15 @@ class TestPapers(Rows):
         self.assertEqual(self.rows("SELECT * FROM paper WHERE code = 'SHORT'"), [("SHORT", "Short <b>", "S2", 90, 0)])
         self.assertIn(f'href="{self.browser.prefix}/sessions/S1"', self.browser.get(page))
 
+    def test_what_hides_in_a_title_stays(self):
+        """The field has a `?` in its place."""
+        self.office("import", "papers", self.write("papers.csv", "paper,title,session,minutes,requires\n"
+                                                   "SHORT,\u05d0\u200f,S1,60,-\n"))
+        self.assertIn('name="title" value="\u05d0?"', self.browser.get("/papers/SHORT"))
+        page, _, _ = self.rehearsed("paper", "/papers/SHORT", **{**self.FORM, "title": "\u05d0?"})
+        self.browser.post(page + "/do", page)
+        self.assertEqual(self.rows("SELECT title, minutes FROM paper WHERE code = 'SHORT'"), [("\u05d0\u200f", 90)])
+
     def test_features_that_it_requires_and_the_form_as_it_was_left(self):
         page, found, words = self.rehearsed("paper", "/papers/SHORT", requires=["computer", "screen"], **self.FORM)
         self.assertEqual(found, {"loses": (1, 1)})
