@@ -112,6 +112,14 @@ class TestSessions(Rows):
             self.assertEqual(self.rows("SELECT hall, until FROM opening ORDER BY 1"), [("A", until), ("B", until)])
             self.assertEqual(self.seats(), seats)
 
+    def test_halls_that_are_open_in_another_way_meanwhile(self):
+        """They are not closed as the page showed them."""
+        page, _, _ = self.move(date="2027-06-07", start="09:30", along="1")
+        self.office("import", "openings", self.write("openings.csv", "session,hall,desks,until,reserved\nS1,A,1,11:00,no\n"))
+        self.browser.post(page + "/do", page)
+        self.assertIn("go back to the form", self.browser.words(page))
+        self.assertEqual(self.rows("SELECT hall, until FROM opening ORDER BY 1"), [("A", 660), ("B", 600)])
+
     def test_second_sittings_stay(self):
         self.office("import", "sessions", self.write("sessions.csv", "session,date,start\nS1-3,2027-06-07,15:00\n"))
         self.assertNotIn("second sittings stay", self.browser.words(SESSION))  # its code alone makes it none
