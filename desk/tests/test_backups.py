@@ -17,10 +17,10 @@ from exam_desk.office import Stale, Trouble
 APPEAL = "INSERT INTO appeal VALUES (1051, 'HA1', 'MON-AM', 1, 'PC1', 0, 0, 'x', 1, NULL, '2027-05-01')"
 
 
-def zipped(parts):
+def zipped(parts, form=zipfile.ZIP_DEFLATED):
     """A zip of these parts, by name."""
     out = io.BytesIO()
-    with zipfile.ZipFile(out, "w", zipfile.ZIP_DEFLATED) as archive:
+    with zipfile.ZipFile(out, "w", form) as archive:
         for name, content in parts.items():
             archive.writestr(name, content)
     return out.getvalue()
