@@ -26,6 +26,19 @@ def zipped(parts):
     return out.getvalue()
 
 
+def misleading(parts):
+    """Two zips that `zipfile` does not read: the parts of one lie beyond all files, in the other they are no LZMA."""
+    far, packed = io.BytesIO(), io.BytesIO()
+    with zipfile.ZipFile(far, "w") as archive:
+        for name, content in parts.items():
+            archive.writestr(name, content)
+            archive.infolist()[-1].header_offset = 1 << 63
+    with zipfile.ZipFile(packed, "w", zipfile.ZIP_LZMA) as archive:
+        for name, content in parts.items():
+            archive.writestr(name, content)
+    return [far.getvalue(), packed.getvalue().replace(b"\5\0\x5d", b"\5\0\xff")]  # how the data begin
+
+
 class Backups(sample.SampleSchool):
     def setUp(self):
         super().setUp()
@@ -141,6 +154,7 @@ class TestRefused(Backups):
                               (backups.SEVERAL, self.zip(**{"b.db": self.first})),
                               (backups.BROKEN, whole[:-40]), ("it has a password", bytes(locked)),
                               (backups.BROKEN, bytes(lying)),
+                              *((backups.BROKEN, each) for each in misleading({"office.db": self.first})),
                               (backups.BROKEN, whole[:len(whole) // 2] + b"x" * 9 + whole[len(whole) // 2 + 9:]),
                               (r"this copy is no good office \(bad office", self.zip(**{"office.db": self.bytes_of("other.db")})),
                               (r"this copy is no good office \(bad seat", zipped({
