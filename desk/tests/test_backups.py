@@ -180,6 +180,11 @@ class TestRefused(Backups):
                     self.fail("it is there")
             self.assertEqual(str(fault.exception), "[Errno 28] said" if raised is OSError else backups.BROKEN)
 
+    def test_more_memory_than_there_is(self):
+        """A zip can ask for a dictionary of 4 GB."""
+        with mock.patch("shutil.copyfileobj", side_effect=MemoryError):
+            self.refuses(backups.BROKEN, self.zip())
+
     def test_no_name_becomes_a_path(self):
         """Paths that lead out of it, links, names of a notebook's form and none."""
         link = zipfile.ZipInfo("notebook/rows.json")
