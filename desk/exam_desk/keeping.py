@@ -258,7 +258,7 @@ def ending(office: Office) -> str:
     journal = beside.folder(office.path, JOURNAL)
     with contextlib.suppress(OSError, IndexError), open(journal, encoding="utf-8", errors="replace") as file:
         return f"the last line of {journal}: {plain(file.read().splitlines()[-1]).removeprefix('office: ')}"
-    return "`office keep start` begins it"
+    return "`office keep start` begins it, or as root `systemctl start examoffice` the service"
 
 
 def status(office: Office) -> Status:

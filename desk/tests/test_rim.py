@@ -155,6 +155,8 @@ class Starting(sample.SampleSchool):
             self.assertEqual(json.loads(turns.text_of(self.value, "keep.lock"))["place"], "8080")
         for said in (b'{"pid": 7, "place": "8080", "state": "serve ended: \xc3', b"[1, 2]", b"[" * 1000, b"\xff\x00", b"7"):
             self.assertEqual(turns.said_by(7, said), {"pid": 7})
+        said = b'{"pid": 7, "port": 8080, "state": "serving"}'  # by `keep` of version 1.0.0, which an upgrade leaves
+        self.assertEqual(turns.said_by(7, said), {"pid": 7, "port": 8080, "place": "8080", "state": "serving"})
 
 
 class Closed(sample.SampleSchool):

@@ -12,7 +12,7 @@ from unittest import mock
 import sample
 from cells import Cells
 
-from exam_desk import reasons, telling  # beside the tests' folder
+from exam_desk import telling  # beside the tests' folder
 from exam_desk.facts import session_row
 from exam_desk.reading import Reading
 from exam_desk.sheets import papers, printing, slips, texts
