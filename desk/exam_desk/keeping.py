@@ -255,9 +255,9 @@ def stop(office: Office) -> None:
 
 def ending(office: Office) -> str:
     """How the last `keep` ended, as far as its journal says it, or what begins another."""
-    journal = beside.folder(office.path, JOURNAL)
-    with contextlib.suppress(OSError, IndexError), open(journal, encoding="utf-8", errors="replace") as file:
-        return f"the last line of {journal}: {plain(file.read().splitlines()[-1]).removeprefix('office: ')}"
+    if lines := beside.text_of(office.path, JOURNAL).splitlines():
+        return (f"the last line of {beside.folder(office.path, JOURNAL)}: "
+                f"{plain(lines[-1]).removeprefix('office: ')}")
     return "`office keep start` begins it"
 
 

@@ -18,7 +18,6 @@ NAME = "log"
 WITH_REASON = ["decide", "lodge"]  # their last value is a reason, which is private
 BESIDE_OTHERS = ["lodge"]  # it goes the candidates' way, without the office for itself
 BEGINS, STEP = "begins", "step"
-LAST_BYTES = 1 << 16  # of the log, in which the last change is looked for
 
 
 @dataclass
@@ -95,9 +94,6 @@ def broken_off(office: Office) -> Unfinished | None:
 
 def last_lines(office: Office) -> Iterator[list[str]]:
     """The columns of the last lines of the log; none where it cannot be read."""
-    with contextlib.suppress(OSError, beside.Strange):
-        with open(beside.open_file(office.path, NAME, flags=os.O_RDONLY), "rb") as file:
-            file.seek(max(os.fstat(file.fileno()).st_size - LAST_BYTES, 0))
-            for line in file.read().decode("utf-8", "replace").split("\n"):
-                if len(columns := line.split("\t")) == 5:
-                    yield columns
+    for line in beside.text_of(office.path, NAME).split("\n"):
+        if len(columns := line.split("\t")) == 5:
+            yield columns

@@ -114,6 +114,7 @@ def holder(office: Office) -> str:
 
 
 def patience(office: Office) -> int:
-    """For how many seconds waiting may help: another command has the file, and no `serve`; or none is to be seen."""
+    """For how many seconds waiting may help: another command has the file, and no `serve`. Where none is to be seen it
+    may have ended just now; more often the file itself is wrong, and stays so."""
     has_it = holder(office)
-    return 0 if re.search(r"\bserve\b", has_it) else turns.PATIENCE if has_it else turns.SILENCE
+    return 0 if re.search(r"\bserve\b", has_it) else turns.PATIENCE if has_it else 1

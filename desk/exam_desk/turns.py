@@ -68,13 +68,6 @@ def note(file: FileIO, text: str) -> None:
         os.pwrite(file.fileno(), text.encode("utf-8", "surrogateescape")[:NOTE_BYTES].ljust(NOTE_BYTES), 0)
 
 
-def text_of(office: Office, name: str) -> str:
-    with contextlib.suppress(OSError, beside.Strange):
-        with open(beside.open_file(office.path, name, flags=os.O_RDONLY), encoding="utf-8", errors="replace") as file:
-            return file.read(NOTE_BYTES).strip()
-    return ""
-
-
 @contextlib.contextmanager
 def alone(office: Office, words: Sequence[str]) -> Iterator[FileIO]:
     """The office for this process alone, and office.lock: waits up to PATIENCE seconds for others, then raises
@@ -94,7 +87,7 @@ def alone(office: Office, words: Sequence[str]) -> Iterator[FileIO]:
     with lock_file(office, "turn.lock") as turn, lock_file(office, "want.lock") as want:
         while not (is_free(turn) and try_lock(want) and is_free(turn)):
             fcntl.flock(want, fcntl.LOCK_UN)
-            pause(lambda: f"another command ({text_of(office, 'want.lock')})" if is_free(turn) else
+            pause(lambda: f"another command ({beside.text_of(office.path, 'want.lock').strip()})" if is_free(turn) else
                   "`keep` (it answers candidates who wait)")
         note(want, f"process {os.getpid()}, {' '.join(words)}")
         ask_keep_aside(office)

@@ -14,7 +14,7 @@ import unittest
 from unittest import mock
 
 import sample
-from exam_desk import asking, hold, keeping, turns
+from exam_desk import asking, beside, hold, keeping, turns
 from exam_desk.office import Trouble
 
 NOBODY = 65534
@@ -152,7 +152,7 @@ class Starting(sample.SampleSchool):
     def test_a_long_fault_is_cut_and_a_cut_text_is_none(self):
         with turns.lock_file(self.value, "keep.lock") as lock:
             keeping.Keep(self.value, "8080", lock).show("\u6f22\"\n" * 1000)
-            self.assertEqual(json.loads(turns.text_of(self.value, "keep.lock"))["place"], "8080")
+            self.assertEqual(json.loads(beside.text_of(self.path, "keep.lock"))["place"], "8080")
         for said in (b'{"pid": 7, "place": "8080", "state": "serve ended: \xc3', b"[1, 2]", b"[" * 1000, b"\xff\x00", b"7"):
             self.assertEqual(turns.said_by(7, said), {"pid": 7})
 
@@ -172,11 +172,14 @@ class Closed(sample.SampleSchool):
         place = os.path.join(os.path.realpath(self.desk), "notebook", "school.json.new")
         self.assertEqual((done.returncode, done.stderr), (1, f"office: {place}: File too large\n"))
 
-    def test_a_page_that_finds_no_room(self):
-        with open("/dev/full", "w", encoding="utf-8") as full:
-            done = subprocess.run([sample.DESK / "office", "doors", "MON-AM"], env=self.environment, stdout=full,
-                                  stderr=subprocess.PIPE, encoding="utf-8", check=False)
-        self.assertEqual((done.returncode, done.stderr), (1, "office: the output: No space left on device\n"))
+    def test_an_output_that_finds_no_room(self):
+        """A page, and what is so short that it goes out with the end of the command."""
+        self.environment.pop("PYTHONUNBUFFERED", None)
+        for words in (["doors", "MON-AM"], ["back"], ["look", "--help"], ["check-files", sample.TOP / "examples"], []):
+            with open("/dev/full", "w", encoding="utf-8") as full:
+                done = subprocess.run([sample.DESK / "office", *words], env=self.environment, stdout=full,
+                                      stderr=subprocess.PIPE, encoding="utf-8", check=False)
+            self.assertEqual((done.returncode, done.stderr), (1, "office: the output: No space left on device\n"), words)
 
 
 class Strangers(sample.SampleSchool):
@@ -201,6 +204,10 @@ class Strangers(sample.SampleSchool):
             os.remove(os.path.join(self.desk, name))
         with open(victim, encoding="utf-8") as file:
             self.assertEqual(file.read(), "a\n" * 1000)
+        for make in (lambda journal: os.symlink(victim, journal), os.mkfifo):  # `status` reads neither of them
+            make(journal := os.path.join(self.desk, "keep.log"))
+            self.assertIn("does not run; `office keep start` begins it", self.refused("keep", "status"))
+            os.remove(journal)
 
     @unittest.skipUnless(os.geteuid() == 0, "a folder of another user needs root")
     def test_root_and_the_office_of_another(self):
@@ -263,7 +270,7 @@ class Turns(sample.SampleSchool):
                 self.assertEqual(asked.call_count, state is not None)
 
     def test_a_lock_that_is_not_there_is_free(self):
-        self.assertEqual((turns.is_taken(self.value, "want.lock"), turns.text_of(self.value, "want.lock")), (False, ""))
+        self.assertEqual((turns.is_taken(self.value, "want.lock"), beside.text_of(self.path, "want.lock")), (False, ""))
 
     def test_a_command_lets_candidates_go_first(self):
         """No command begins while `keep` holds the lock for candidates who wait; it says behind whom it waits."""
