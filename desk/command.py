@@ -203,7 +203,7 @@ def tell_consequences(copy: str | None) -> None:
 
 def office() -> Office:
     """The office that is meant."""
-    return Office(os.environ.get("OFFICE") or "office.db", program(), today, user(), warn, now)
+    return Office(os.environ.get("OFFICE") or "office.db", program(), lambda: now().date(), user(), warn, now)
 
 
 def existing_office() -> Office:
@@ -239,10 +239,6 @@ def program() -> str:
     places = [named] if named else [os.path.join(DESK, "examoffice"),
                                     os.path.join(DESK, "../crates/examoffice/out/examoffice"), "examoffice"]
     return next(filter(None, map(shutil.which, places)), places[0])
-
-
-def today() -> datetime.date:
-    return now().date()
 
 
 def now() -> datetime.datetime:

@@ -80,7 +80,7 @@ def keep(parser: command.Parser) -> bool:
         keeping.stop(office)
         print("ended")
         return False
-    status = (keeping.status(office) if given.what == "status" else
-              keeping.start(office, [sys.executable, command.OFFICE, "keep", "run", given.place]))
-    print(status.sentence)
-    return not status.serves
+    serves, said = (keeping.status(office) if given.what == "status" else
+                    keeping.start(office, [sys.executable, command.OFFICE, "keep", "run", given.place]))
+    print(said)
+    return not serves

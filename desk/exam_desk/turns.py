@@ -21,7 +21,7 @@ import struct
 import time
 from collections.abc import Callable, Iterator, Sequence
 from io import FileIO
-from typing import TypedDict, cast
+from typing import Any
 
 from exam_desk import beside
 from exam_desk.office import Office, Trouble
@@ -31,15 +31,7 @@ SILENCE = 5  # seconds after which it says behind whom it waits
 PAUSE = 0.01  # seconds from one try to the next
 NOTE_BYTES = 1024
 FLOCK = "hhqqi"  # struct flock of fcntl(2): type, whence, start, length, process
-
-
-class Said(TypedDict, total=False):
-    """What `keep` says of itself; its process is always there."""
-    pid: int
-    place: str
-    state: str
-    serve: int  # the process of `serve`
-    day: str
+Said = dict[str, Any]  # what `keep` says of itself: its pid always; place, state, and day and pid of its `serve`
 
 
 def lock_file(office: Office, name: str) -> FileIO:
@@ -122,7 +114,7 @@ def said_by(process: int, text: bytes) -> Said:
     with contextlib.suppress(ValueError, RecursionError):
         said = json.loads(text)
         if isinstance(said, dict) and said.get("pid") == process:
-            return cast(Said, said)
+            return said
     return {"pid": process}
 
 

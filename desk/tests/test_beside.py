@@ -146,6 +146,12 @@ class Copies(Beside):
             made = [copies.keep_copy(self.value, "withdraw") for _ in range(2)]
             self.assertEqual(copies.listed(self.value), made[1:])
 
+    def test_the_one_that_is_put_back_stays_until_the_next_change(self):
+        with mock.patch("exam_desk.copies.MOST_COPIES", 1):
+            first = copies.keep_copy(self.value, "withdraw")
+            self.assertEqual([copies.put_back(self.value, first), first], copies.listed(self.value))
+            self.assertEqual([copies.keep_copy(self.value, "reinstate")], copies.listed(self.value))
+
     def test_a_copy_of_1_0_0_is_put_back(self):
         before = self.office("export", "MON-AM")
         self.office("withdraw", "0001000", "MA-1")

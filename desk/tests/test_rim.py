@@ -14,7 +14,7 @@ import unittest
 from unittest import mock
 
 import sample
-from exam_desk import asking, beside, hold, keeping, turns
+from exam_desk import asking, beside, hold, keeping, refusals, turns
 from exam_desk.office import Trouble
 
 NOBODY = 65534
@@ -85,9 +85,11 @@ class Crowded(unittest.TestCase):
     def test_status_says_what_a_refusal_means(self):
         for state, said in (("serve ended with status 1: refused 27",
                              "serve ended with status 1: refused 27; an earlier version of the program made the file; "
-                             "`office migrate` carries it over"), ("aside", "it begins, or a command has the office")):
-            with mock.patch("exam_desk.turns.keep_state", return_value={"pid": 7, "place": "8080", "state": state}):
-                self.assertEqual(keeping.status(None).sentence,
+                             "`office migrate` carries it over"), ("aside", "it begins, or a command has the office"),
+                            ("refused 23", f"refused 23; {refusals.SENTENCES[23]}")):
+            with (mock.patch("exam_desk.turns.keep_state", return_value={"pid": 7, "place": "8080", "state": state}),
+                  mock.patch("exam_desk.refusals.holder", return_value="")):
+                self.assertEqual(keeping.status(None)[1],
                                  f"process 7 does not serve now: {said}; it tries again by itself")
 
 
@@ -337,6 +339,8 @@ class Sockets(sample.SampleSchool):
         folder = os.path.join(self.folder, "run")
         with contextlib.suppress(FileExistsError):
             os.mkdir(folder)
+        if os.geteuid() == 0:
+            os.chown(folder, -1, NOBODY)  # the group of a server
         os.chmod(folder, 0o750)
         return folder
 
