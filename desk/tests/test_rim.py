@@ -319,6 +319,30 @@ class Waiting(sample.KeptSchool):
             sample.until(lambda: turns.is_free(turn))
 
 
+class Answering(sample.SampleSchool):
+    def test_the_turn_is_given_back_with_the_answer(self):
+        with mock.patch("exam_desk.keeping.TURN_SECONDS", 10 * sample.PATIENCE), mock.patch("exam_desk.keeping.say"):
+            asyncio.run(self.is_given_back())
+
+    async def is_given_back(self):
+        """Somebody has want.lock until `keep` has taken the turn for a candidate."""
+        with (turns.lock_file(self.value, "keep.lock") as lock, turns.lock_file(self.value, "turn.lock") as turn,
+              turns.lock_file(self.value, "want.lock") as want):
+            turns.try_lock(want)
+            keep = keeping.Keep(self.value, str(sample.free_port()), lock)
+            served = asyncio.create_task(keep.run())
+            answer = asyncio.create_task(keep.hold.answer(b"GET / HTTP/1.0\r\n\r\n"))
+            async with asyncio.timeout(sample.PATIENCE):
+                while turns.is_free(turn):
+                    await asyncio.sleep(0.02)
+                want.close()
+                self.assertTrue((await answer).endswith(b'{"error":37}'))
+                while not turns.is_free(turn):
+                    await asyncio.sleep(0.02)
+            keep.end()
+            await served
+
+
 class Days(sample.SampleSchool):
     def test_only_days_are_removed(self):
         days = os.path.join(self.desk, "days")
