@@ -275,7 +275,6 @@ def put(text: str) -> bool:
     try:
         command.say(text)
     except OSError:
-        command.drop_output()
         return False
     return True
 

@@ -326,6 +326,7 @@ class Causes(sample.SampleSchool):
         self.assertEqual(lines[:2], ["refused 23", f"  {refusals.SENTENCES[23]}"])
         self.assertEqual(lines[-2:], ["  a command is there whole or not at all: look, or give it again", ""])
         self.assertFalse(os.listdir(os.path.join(self.desk, "copies")))
+        self.assertLessEqual(refusals.patience(self.value), 1)  # seconds: nobody waits long for what stays so
         return lines[2:-2]
 
     def test_a_second_hard_link(self):
