@@ -136,8 +136,8 @@ def codes(parser: command.Parser) -> command.Plan:
     from exam_desk import coding
     parser.add_argument("numbers", metavar="NUMBER", type=typed.number, nargs="+")
     numbers = parser.parse_args().numbers
-    step = coding.other_rows(command.existing_office(), numbers)
-    return programs.Change(steps=[step], title=" ".join(["codes", *numbers]))
+    step, state = coding.other_rows(command.office(), numbers)
+    return programs.Change(steps=[step], title=" ".join(["codes", *numbers]), made_for=state)
 
 
 @command.named("""\

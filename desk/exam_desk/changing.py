@@ -14,6 +14,7 @@ import contextlib
 import functools
 import itertools
 import os
+import signal
 import sqlite3
 import time
 from collections.abc import Callable, Iterable, Iterator, Sequence
@@ -147,14 +148,14 @@ def carry_out(office: Office, steps: Sequence[Step], made_from: str | None = Non
     if not os.path.isfile(office.path):  # the program says so
         ran = running.run_over(office, office.path, *steps[0].words, data=steps[0].data)
         return Carried([Answered(steps[0], ran)], None, None)
-    title = title or ", ".join(step.title() for step in steps)
-    with unchanged(office), turn(office, title, made_from) as lock, copied(office, title) as copy:
+    shown = title or ", ".join(step.title() for step in steps)
+    with unchanged(office), turn(office, shown, made_from) as lock, copied(office, shown) as copy:
         if len(steps) == 1:
             tell(steps[0].title())
-            answers = [carried(office, lock, steps[0], logbook.BEGINS, copy)]
+            answers = [carried(office, lock, steps[0], logbook.BEGINS, copy, title)]
             is_undone = has_done_nothing(office, answers[0], copy)
         else:
-            answers = carried_all(office, lock, title, steps, copy, tell)
+            answers = carried_all(office, lock, shown, steps, copy, tell)
             is_undone = refused_of(answers) is not None
         if is_undone:
             copies.drop(copy)
@@ -170,7 +171,7 @@ def copied(office: Office, title: str) -> Iterator[str]:
     copy = copies.keep_copy(office, title)
     try:
         yield copy
-    except (OSError, sqlite3.Error, running.NotStarted, SystemExit) as fault:
+    except BaseException as fault:
         is_kept = copies.kept_if_other(office, copy)
         if isinstance(fault, SystemExit):  # a signal
             office.warn("stopped: look whether it is done; `office back 1` takes it back then" if is_kept else
@@ -227,10 +228,12 @@ def run_patiently(office: Office, step: Step, lock: FileIO | None = None, copy: 
         time.sleep(PAUSE)
 
 
-def carried(office: Office, lock: FileIO, step: Step, status: str, copy: str = "") -> Answered:
+def carried(office: Office, lock: FileIO, step: Step, status: str, copy: str = "", title: str = "") -> Answered:
     """Carries out one step with the office alone, which the program does whole or not at all; `status` begins its line
-    in the log, which can name a copy. Raises OSError where nothing can be written there, and nothing is done."""
-    with logbook.logged(office, [*step.words, *step.about], status, os.path.basename(copy)) as outcome:
+    in the log, which can have another title, and name a copy. Raises OSError where nothing can be written there, and
+    nothing is done."""
+    words = [title] if title else [*step.words, *step.about]
+    with logbook.logged(office, words, status, os.path.basename(copy)) as outcome:
         answered = Answered(step, run_patiently(office, step, lock, copy))
         outcome.status, outcome.answer = answered.ran.status, answered.first_line()
     return answered
@@ -250,7 +253,6 @@ def carried_all(office: Office, lock: FileIO, title: str, steps: Sequence[Step],
                     break
         except BaseException:
             restore(office, ready, copy, outcome, "stopped")
-            copies.drop(copy)
             raise
         if refused := refused_of(answers):
             restore(office, ready, copy, outcome, f"{refused.step.title()}: {refused.first_line()}")
@@ -263,7 +265,8 @@ def carried_all(office: Office, lock: FileIO, title: str, steps: Sequence[Step],
 def go_back(office: Office, words: Sequence[str], copy: str, may_go: Callable[[list[Said]], bool],
             made_from: str | None = None) -> Back:
     """Puts a copy in the place of the office, in one turn, where `may_go` agrees to the appeals and decisions that this
-    takes away. Raises as `turn`, and `Trouble` where the copy is gone or no good office."""
+    takes away. Both are on the disk at each moment. Where no office was, a backup brings its notebook. Raises as `turn`,
+    and `Trouble` where the copy is gone or no good office."""
     with contextlib.ExitStack() as stack:
         with unchanged(office):
             stack.enter_context(turn(office, " ".join(words), made_from))
@@ -272,11 +275,29 @@ def go_back(office: Office, words: Sequence[str], copy: str, may_go: Callable[[l
             lines = copies.losses(office, copy)
             if not may_go(lines):
                 return Back(False, lines, None)
-            outcome = stack.enter_context(logbook.logged(office, words))
-        kept = copies.put_back(office, copy)
-        titles.renew(office)
-        outcome.status, outcome.answer = 0, "; ".join([copies.state_of(copy), *map(str, lines)])
-    return Back(True, lines, kept)
+            path, kept = stack.enter_context(copies.ready(office, copy)), ""
+            copies.check(office, path)
+            if os.path.exists(os.path.realpath(office.path)):
+                kept = stack.enter_context(copied(office, copies.title_of_back(copy)))
+            elif copies.is_brought(copy):
+                with contextlib.suppress(OSError):  # it has none, or one is here already
+                    os.rename(os.path.join(copy, notebook.PLACE), beside.folder(office.path, notebook.PLACE))
+            outcome = stack.enter_context(logbook.logged(office, words, answer=os.path.basename(kept)))
+        with whole():
+            copies.move_in(office, path)
+            outcome.status, outcome.answer = 0, "; ".join([copies.state_of(copy), *map(str, lines)])
+            titles.renew(office)
+    return Back(True, lines, kept or None)
+
+
+@contextlib.contextmanager
+def whole() -> Iterator[None]:
+    """Signals that end a command wait until this is done."""
+    held = signal.pthread_sigmask(signal.SIG_BLOCK, [signal.SIGHUP, signal.SIGINT, signal.SIGTERM])
+    try:
+        yield
+    finally:
+        signal.pthread_sigmask(signal.SIG_SETMASK, held)
 
 
 def state_of(office: Office) -> str:
@@ -287,14 +308,17 @@ def state_of(office: Office) -> str:
 
 
 def restore(office: Office, ready: str, copy: str, outcome: logbook.Outcome, why: str) -> None:
-    """Puts the copy back in the turn in which it was made; the log says why, and that all is as before once it is."""
+    """Puts the copy back in the turn in which it was made, and it goes; the log says why, and that all is as before
+    once it is."""
     outcome.answer = why
     try:
-        copies.move_in(office, ready)
+        with whole():
+            copies.move_in(office, ready)
+            outcome.answer = f"all is as before: {why}"
+            copies.drop(copy)
     except OSError as fault:
         raise Trouble(f"a step failed, and the office could not be put back as it was ({fault.strerror}): "
                       f"{way_back(copy)}") from fault
-    outcome.answer = f"all is as before: {why}"
 
 
 def way_back(copy: str) -> str:

@@ -179,10 +179,16 @@ def done(office: Office, copy: str, progress: Progress) -> list[str]:
                 raise Trouble("the office has changed again meanwhile")
             effects = Effects(before, after)
             shown = headlines(effects.met)
-            return effects.said(shown, listing(effects.met, copies.listed(office).index(copy) + 1), MOST_NAMED)
+            return effects.said(shown, listing(effects.met, place_of(office, copy)), MOST_NAMED)
     except (Trouble, OSError, sqlite3.Error, MemoryError) as fault:
         reason = plain(str(fault)) or "there is no memory"
-        return [f"the change is done, but nobody can say what it did to candidates: {reason}; try `office changes 1`"]
+        return [f"the change is done, but nobody can say what it did to candidates: {reason}; try `office changes "
+                f"{place_of(office, copy)}`"]
+
+
+def place_of(office: Office, copy: str) -> int:
+    """The number of a copy in `office back`."""
+    return [*copies.listed(office), copy].index(copy) + 1
 
 
 def on_old_paper(papers: Mapping[str, on_paper.Papers]) -> list[Met]:

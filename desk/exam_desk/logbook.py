@@ -15,7 +15,7 @@ from exam_desk.office import Office
 from exam_desk.words import plain
 
 NAME = "log"
-WITH_REASON = ["decide", "lodge"]  # their last value is a reason, which is private
+PUBLIC = {"decide": 4, "lodge": -1}  # up to which word a command has no reason, which is private
 BESIDE_OTHERS = ["lodge"]  # it goes the candidates' way, without the office for itself
 BEGINS, STEP = "begins", "step"
 LAST_BYTES = 1 << 16  # of the log, in which the last change is looked for
@@ -38,8 +38,8 @@ class Unfinished:
 
 
 def shown(words: Sequence[str]) -> list[str]:
-    """The words of a command as the log and the copies have them: without the values that are private."""
-    return list(words[:-1] if words[0] in WITH_REASON and len(words) > 1 else words)
+    """The words of a command as the log and the copies have them: without a reason, also one of several words."""
+    return [*words[:PUBLIC.get(words[0])]]
 
 
 def write(office: Office, words: Sequence[str], status: int | str, answer: str) -> None:
