@@ -136,10 +136,11 @@ def what_if(parser: command.Parser) -> int:
     words = command.given_as_typed(parser, "COMMAND ..")
     own = {name: each for name, each in command.COMMANDS.items() if each.changes}
     name = "".join(words[:1])
-    if name in programs.CHANGES and programs.asks_help(words):
+    values, asks_help = programs.as_typed([name, *words[1:]])
+    if name in programs.CHANGES and asks_help:
         return programs.run(command.office(), words)
     plan = (own[name].run(command.parser_of(name, words[1:])) if name in own else
-            programs.of_program(programs.behind_dashes([name, *words[1:]])))
+            programs.of_program(values))
     if not isinstance(plan, programs.Change):
         why = f"`office {name}` changes no seat; " if name else ""
         raise Trouble(f"{why}name a command that does: {', '.join(sorted([*own, *programs.CHANGES]))}")

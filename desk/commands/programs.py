@@ -1,7 +1,6 @@
 """What `office` does for a command of the program, and for each command that changes the office: that gives a plan,
 which `what-if` rehearses, and `office` carries out."""
 import contextlib
-import itertools
 import os
 import subprocess
 import sys
@@ -180,11 +179,11 @@ def rehearsed(change: Change) -> Iterator[tuple[int, Rehearsal]]:
 
 def run(office: Office, words: list[str]) -> int:
     """Runs a command of the program; the status."""
-    if asks_help(words):
+    words, asks_help = as_typed(words)
+    if asks_help:
         found = running.help_text(office, words[0])
         command.say(found + HELP.get(words[0], "").format(words[0]))
         return 0 if found else said(Step(tuple(words)), Ran(2, "", "line not understood\n"))
-    words = behind_dashes(words)
     if words[0] == "serve" and len(words) > 1:
         beside.refuse_stranger(office.path)
         if turns.keep_state(office) is not None:
@@ -196,14 +195,11 @@ def run(office: Office, words: list[str]) -> int:
     return said(Step(tuple(words)), dispatch(office, words))
 
 
-def asks_help(words: list[str]) -> bool:
-    return not {"-h", "--help"}.isdisjoint(itertools.takewhile(lambda word: word != "--", words))
-
-
-def behind_dashes(words: list[str]) -> list[str]:
-    """The words without the first `--`: what is behind it may begin with `-`, as each value may here."""
+def as_typed(words: list[str]) -> tuple[list[str], bool]:
+    """The words without the first `--`, and whether one before it asks for help; what is behind it may begin with `-`.
+    """
     place = words.index("--") if "--" in words else len(words)
-    return words[:place] + words[place + 1:]
+    return words[:place] + words[place + 1:], not {"-h", "--help"}.isdisjoint(words[:place])
 
 
 def dispatch(office: Office, words: list[str]) -> Ran:

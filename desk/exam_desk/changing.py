@@ -153,15 +153,15 @@ def carry_out(office: Office, steps: Sequence[Step], made_from: str | None = Non
         if len(steps) == 1:
             tell(steps[0].title())
             answers = [carried(office, lock, steps[0], logbook.BEGINS, copy, title)]
-            is_undone = has_done_nothing(office, answers[0], copy)
+            complaint = answers[0].ran.complaint
+            if (complaint.startswith(("refused", "file fault"))
+                    and refusals.number_of(complaint) not in refusals.MAYBE_DONE):  # then the bytes tell
+                copies.drop(copy)
         else:
             answers = carried_all(office, lock, shown, steps, copy, tell)
-            is_undone = refused_of(answers) is not None
-        if is_undone:
-            copies.drop(copy)
-        elif any((refusals.imported(step.words) or "-")[0] in titles.KINDS for step in steps):
+        if any((refusals.imported(step.words) or "-")[0] in titles.KINDS for step in steps):
             titles.renew(office)
-        as_promised = None if promised is None or is_undone else state_of(office) == promised
+        as_promised = None if promised is None else state_of(office) == promised
         return Carried(answers, copies.kept_if_other(office, copy), as_promised)
 
 
@@ -177,13 +177,6 @@ def copied(office: Office, title: str) -> Iterator[str]:
             office.warn("stopped: look whether it is done; `office back 1` takes it back then" if is_kept else
                         "stopped: nothing is changed")
         raise
-
-
-def has_done_nothing(office: Office, answered: Answered, copy: str) -> bool:
-    """Whether the program says that it did nothing; after 22 and 23 the step may be there all the same."""
-    if answered.ran.status != 2 and not answered.ran.complaint.startswith(("refused", "file fault")):
-        return False
-    return refusals.number_of(answered.ran.complaint) not in refusals.MAYBE_DONE or copies.is_as_now(office, copy)
 
 
 @contextlib.contextmanager
@@ -207,7 +200,7 @@ def unchanged(office: Office) -> Iterator[None]:
         yield
     except OSError as fault:
         place = fault.filename or beside.folder(office.path)
-        raise Trouble(f"no copy of the office can be kept, so nothing is changed: {place}: {fault.strerror}"
+        raise Trouble(f"nothing can be kept beside the office, so nothing is changed: {place}: {fault.strerror}"
                       f"{beside.room(office.path, fault)}") from fault
     except sqlite3.Error as fault:
         raise Trouble(f"{office.path} cannot be read, so nothing is changed: {fault}; `office check` says more"
@@ -245,20 +238,20 @@ def carried_all(office: Office, lock: FileIO, title: str, steps: Sequence[Step],
     answers: list[Answered] = []
     with (copies.ready(office, copy) as ready,  # it can be moved in when the disk is full
           logbook.logged(office, [title], answer=os.path.basename(copy)) as outcome):
+        outcome.answer = "stopped"
         try:
             for step in steps:
                 tell(step.title())
                 answers.append(carried(office, lock, step, logbook.STEP))
-                if refused_of(answers):
+                if refused := refused_of(answers):
+                    outcome.status = refused.ran.status
+                    outcome.answer = f"{refused.step.title()}: {refused.first_line()}"
                     break
-        except BaseException:
-            restore(office, ready, copy, outcome, "stopped")
-            raise
-        if refused := refused_of(answers):
-            restore(office, ready, copy, outcome, f"{refused.step.title()}: {refused.first_line()}")
-            outcome.status = refused.ran.status
-        else:
-            outcome.status, outcome.answer = 0, f"{len(answers)} steps"
+            else:
+                outcome.status, outcome.answer = 0, f"{len(answers)} steps"
+        finally:
+            if outcome.status:
+                restore(office, ready, copy, outcome)
     return answers
 
 
@@ -275,8 +268,10 @@ def go_back(office: Office, words: Sequence[str], copy: str, may_go: Callable[[l
             lines = copies.losses(office, copy)
             if not may_go(lines):
                 return Back(False, lines, None)
-            path, kept = stack.enter_context(copies.ready(office, copy)), ""
+        with private.private_copy(copies.file_in(office, copy), office.path) as path:
             copies.check(office, path)
+        with unchanged(office):
+            path, kept = stack.enter_context(copies.ready(office, copy)), ""
             if os.path.exists(os.path.realpath(office.path)):
                 kept = stack.enter_context(copied(office, copies.title_of_back(copy)))
             elif copies.is_brought(copy):
@@ -307,14 +302,12 @@ def state_of(office: Office) -> str:
     return ""
 
 
-def restore(office: Office, ready: str, copy: str, outcome: logbook.Outcome, why: str) -> None:
-    """Puts the copy back in the turn in which it was made, and it goes; the log says why, and that all is as before
-    once it is."""
-    outcome.answer = why
+def restore(office: Office, ready: str, copy: str, outcome: logbook.Outcome) -> None:
+    """Puts the copy back in the turn in which it was made, and it goes; once that is done the log says so."""
     try:
         with whole():
             copies.move_in(office, ready)
-            outcome.answer = f"all is as before: {why}"
+            outcome.answer = f"all is as before: {outcome.answer}"
             copies.drop(copy)
     except OSError as fault:
         raise Trouble(f"a step failed, and the office could not be put back as it was ({fault.strerror}): "
