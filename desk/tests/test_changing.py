@@ -101,13 +101,14 @@ class Titles(unittest.TestCase):
 
 class Lists(Changing):
     def test_it_is_carried_out_as_it_was_tried_with_one_copy(self):
-        before = self.state()
-        with changing.rehearse(self.value, STEPS) as rehearsal:
+        before, told = self.state(), []
+        with changing.rehearse(self.value, STEPS, told.append) as rehearsal:
             names = [snapshot.name_now(self.value, path) for path in (rehearsal.before, rehearsal.after)]
             self.assertEqual([answer.first_line() for answer in rehearsal.answers],
                              ["withdrawn", "closed", "added 1 changed 0 same 0"])
         self.assertEqual((self.state(), names[0], self.kept(), self.log()), (before, before, [], []))
-        carried = changing.carry_out(self.value, STEPS, *names, "three things")
+        carried = changing.carry_out(self.value, STEPS, *names, "three things", told.append)
+        self.assertEqual(told, 2 * ["withdraw 0001000 MA-1", "close-hall MON-AM GYM", "import entries more.csv for 0001000 FR"])
         self.assertEqual((carried.answers[-1].ran.status, carried.as_promised, self.state()), (0, True, names[1]))
         self.assertEqual(self.kept(), [carried.copy])
         name = os.path.basename(carried.copy)
