@@ -124,7 +124,7 @@ def rehearse(office: Office, steps: Sequence[Step], tell: Tell = lambda title: N
             source = before if copy is None else copies.file_in(office, copy)  # both are of one moment
             after = stack.enter_context(private.private_copy(source, office.path))
         except OSError as fault:
-            raise Trouble(fault.strerror or str(fault), fault.filename or office.path) from fault
+            raise snapshot.unreadable(fault.filename or office.path, fault) from fault
         if copy is not None:
             copies.check(office, after)
             running.run_over(office, after, "migrate")

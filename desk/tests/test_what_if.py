@@ -131,6 +131,8 @@ class WhatIf(test_changing.Changing):
             self.assertIn(f"`office {word}` changes no seat; name a command that does: back, close-hall, codes, decide, import, "
                           "migrate, name, open-hall, reinstate, second-sitting, take, withdraw\n",
                           self.refused("what-if", word, "x"))
+        self.assertIn("there is no office here; go to its folder, ",
+                      self.refused("what-if", "withdraw", "1000", "MA-1", OFFICE=self.path + ".none"))
         self.assertRegex(self.refused("what-if"), r"\Aoffice: name a command that does: back, .*, withdraw\n\Z")
         self.assertEqual(self.run_office("what-if", "take").returncode, 2)
         self.assertIn("office name", self.office("what-if", "name", "--help"))
