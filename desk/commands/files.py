@@ -144,8 +144,8 @@ def codes(parser: command.Parser) -> command.Plan:
     parser.add_argument("--output", metavar="FILE", help="the new file, CANDIDATES-with-codes.csv if not given")
     given = parser.parse_args()
     if given.words and typed.is_right("number", given.words[0]):
-        step = coding.other_rows(command.existing_office(), given.words)
-        return programs.Change(steps=[step], title=" ".join(["codes", *given.words]))
+        step, state = coding.other_rows(command.office(), given.words)
+        return programs.Change(steps=[step], title=" ".join(["codes", *given.words]), made_for=state)
     path, *more = given.words or ["candidates.csv"]
     if more:
         parser.error("name one file, or numbers alone")

@@ -67,11 +67,12 @@ def coded(office: Office, path: str, new: list[str]) -> tuple[list[list[str]], i
     return found, made, sum(not code and number in known for number, _, code in empty)
 
 
-def other_rows(office: Office, numbers: list[str], name: str | None = None) -> Step:
-    """The import of candidates with another name and the same code, or without a name with another code. Raises
-    `Trouble` where nobody has a number, or it is no name."""
+def other_rows(office: Office, numbers: list[str], name: str | None = None) -> tuple[Step, str]:
+    """The import of candidates with another name and the same code, or without a name with another code; and the name
+    of the state that it is for. Raises `Trouble` where nobody has a number, or it is no name."""
     with snapshot.rows(office) as connection:
         rows = {row[0]: row for row in files.rows_of(connection, "candidates")}
+        state = snapshot.name_of(connection)
     if missing := [number for number in numbers if number not in rows]:
         raise NoCandidate(missing[0])
     if name is not None and not files.is_name(name.encode("utf-8", "surrogateescape")):
@@ -80,7 +81,7 @@ def other_rows(office: Office, numbers: list[str], name: str | None = None) -> S
     changed = [[number, rows[number][1], new_code(taken)] if name is None else [number, name, rows[number][2]]
                for number in dict.fromkeys(numbers)]
     title = f"{'name' if name is not None else 'code'} of {', '.join(numbers)}"
-    return Step(("import", "candidates", title), files.file_of("candidates", changed))
+    return Step(("import", "candidates", title), files.file_of("candidates", changed)), state
 
 
 def add_codes(office: Office, job: Job) -> None:
