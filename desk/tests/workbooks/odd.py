@@ -159,6 +159,8 @@ case("minus-zero", xlsx(sheet("Arrangements", ARRANGEMENTS, ["0000001", "quiet",
      files={"arrangements": ["0000001,quiet,0"]})
 case("total-in-the-middle", xlsx(sheet("Openings", OPENINGS, ["S1", "A", 10, "12:00", "no"], [None, None, ("f", "SUM(C2)", 10), None, None],
      ["S1", "B", 5, "12:00", "no"])), 1, only=True, mistakes=[[f"Openings!{letter}3", "is missing"] for letter in "ABD"])
+case("merged-reversed", xlsx(candidates(ADA, BO, merge=["A3:A2"])), 1, mistakes=[["Candidates!A3", "hidden by the merged cells A2:A3"]])
+case("merged-reversed-columns", xlsx(candidates(["0000001", None, "CODE0001"], merge=["B2:A2"])), 1, mistakes=[["Candidates!A2", "A2:B2"]])
 case("merged-and-empty", xlsx(candidates(ADA, [], [], [], BO, merge=["A3:C3", "A4:A5"])), files={"candidates": [ADA_LINE, BO_LINE]}, quiet=True)
 case("merged-header-downwards", xlsx(candidates([], ADA, merge=["A1:A2", "B1:B2"])), files={"candidates": [ADA_LINE]}, quiet=True)
 case("numbers-by-conditions", xlsx(sheet("Openings", OPENINGS, ["S1", "A", ("n", "24", '[>100]0;0"0"'), "12:00", "no"],
