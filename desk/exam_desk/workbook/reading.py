@@ -47,7 +47,10 @@ def read_book(book: Book, job: Job, progress: Progress = lambda text: None) -> J
         where = ": see `office template`" if job.way.is_command else ""
         job.mistake(f"no sheet has rows of one of the seven kinds{where}")
     keep_codes(job)
-    check_files(job, progress)
+    said = {line.place for line in job.lines if line.sort == "mistake"}
+    for kind, rows in job.records.items():
+        progress(f"{kind}: check of {len(rows):,} rows")
+        check_file(job, kind, rows, said)
     return job
 
 
@@ -207,16 +210,9 @@ def keep_codes(job: Job) -> None:
                        found[0].columns[2], mistakes.NO_CODE) for found in without.values()]
 
 
-def check_files(job: Job, progress: Progress) -> None:
-    """Adds what `office check-files` would say of the files, on the cells from which their values come."""
-    said = {line.place for line in job.lines if line.sort == "mistake"}
-    for kind, rows in job.records.items():
-        progress(f"{kind}: check of {len(rows):,} rows")
-        check_file(job, kind, rows, said)
-
-
 def check_file(job: Job, kind: str, rows: list[Record], said: set[str]) -> None:
-    """Adds what is wrong with a file unless a line on the cell says it. What was said is known afterwards."""
+    """Adds what `office check-files` would say of a file, on the cells from which its values come, unless a line on the
+    cell says it. What was said is known afterwards."""
     header = files.HEADERS[kind]
     file = mistakes.File(kind, job.known, place=lambda line: place_name(*rows[line - FIRST][:2]))
     found = file.looked_through(files.Record(line, tuple(map(encoded, record.fields)), True)
