@@ -190,9 +190,10 @@ class Limits(unittest.TestCase):
         self.assertLess(time.process_time() - began, 10)
 
     def test_merged_cells_have_a_limit(self) -> None:
-        book = unpacked(child.read(rawbook.xlsx(cases.candidates(cases.ADA, [], [], cases.BO, merge=["A2:A3", "B2:B4"]))))
-        with mock.patch("exam_desk.workbook.rows.MOST_MERGED", 2), self.assertRaisesRegex(Trouble, "cells cover more than 2 rows"):
-            read_book(book, Job(Known()))
+        for merge in ["A2:A3", "B2:B4"], ["A2:B2", "A3:B3", "A8:B9"]:
+            book = unpacked(child.read(rawbook.xlsx(cases.candidates(cases.ADA, [], [], cases.BO, merge=merge))))
+            with mock.patch("exam_desk.workbook.rows.MOST_MERGED", 2), self.assertRaisesRegex(Trouble, "cells cover more than 2 rows"):
+                read_book(book, Job(Known()))
 
 
 class Columns(unittest.TestCase):
