@@ -61,8 +61,8 @@ def say(text: object) -> None:
 class Keep:
     """Serves through a `Hold` until a signal or `office keep stop` ends it."""
 
-    def __init__(self, office: Office, place: str, lock: FileIO) -> None:
-        self.office, self.place, self.lock = office, place, lock
+    def __init__(self, office: Office, place: str, lock: FileIO, days: int = copies.MOST_DAYS) -> None:
+        self.office, self.place, self.lock, self.days = office, place, lock, days
         self.hold = hold.Hold()
         self.ending = False
         self.day = office.today()  # for which it serves
@@ -158,7 +158,7 @@ class Keep:
     def keep_day(self) -> None:
         """Keeps a copy of the office at each new day, and the last of them."""
         try:
-            if path := copies.keep_day(self.office, self.day):
+            if path := copies.keep_day(self.office, self.day, self.days):
                 say(f"copy of the day in {path}")
         except (OSError, Trouble) as fault:
             say(f"no copy of the day: {fault.strerror if isinstance(fault, OSError) and fault.strerror else fault}")
@@ -215,13 +215,13 @@ def place_of(given: str) -> str:
     return os.path.join(os.path.abspath(given), SOCKET) if os.path.isdir(given) else ""
 
 
-def run(office: Office, place: str) -> None:
+def run(office: Office, place: str, days: int) -> None:
     """Serves until a signal ends it. Raises `Trouble` where another `keep` serves the office."""
     signal.signal(signal.SIGUSR1, signal.SIG_IGN)  # a command that comes before the handler need not step it aside
     with turns.lock_file(office, "keep.lock") as lock:
         if not turns.try_lock(lock, lock=fcntl.lockf):
             raise Trouble(RUNS)
-        asyncio.run(Keep(office, place, lock).run())
+        asyncio.run(Keep(office, place, lock, days).run())
 
 
 def start(office: Office, line: Sequence[str]) -> Status:
@@ -258,7 +258,7 @@ def ending(office: Office) -> str:
     journal = beside.folder(office.path, JOURNAL)
     with contextlib.suppress(OSError, IndexError), open(journal, encoding="utf-8", errors="replace") as file:
         return f"the last line of {journal}: {plain(file.read().splitlines()[-1]).removeprefix('office: ')}"
-    return "`office keep start` begins it"
+    return "`office keep start` begins it, or as root `systemctl start examoffice` the service"
 
 
 def status(office: Office) -> Status:

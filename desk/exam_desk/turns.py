@@ -129,7 +129,7 @@ def said_by(process: int, text: bytes) -> Said:
     with contextlib.suppress(ValueError, RecursionError):
         said = json.loads(text)
         if isinstance(said, dict) and said.get("pid") == process:
-            return cast(Said, said)
+            return cast(Said, {"place": str(said.get("port")), **said})  # version 1.0.0 says a port
     return {"pid": process}
 
 
