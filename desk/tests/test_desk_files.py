@@ -403,6 +403,8 @@ class TestFiles(Uploads):
         page = self.upload(("r.xlsx", rooms), ("s.xlsx", pupils), ("columns.toml", more))
         self.assertIn("No mistake", self.browser.words(page))  # each says of its own workbook alone
         self.assertIn('"R20","Room","-"', self.browser.ask("GET", page + "/halls.csv")[1])
+        words = self.browser.words(self.upload(("s.xlsx", pupils), ("columns.toml", more)))
+        self.assertIn("there is no sheet Rooms here; there are: Pupils", words)  # it comes alone, so it should have it
         for wrong, said in ((b"[pupils]\n", "pupils is none of the seven kinds"), (b"x = " + b"[" * 9999, "recursion"),
                             (b"\xff", "its letters are no UTF-8: save it as UTF-8")):
             _, text = self.browser.send("/files", "/files", "files", export, ("columns.toml", wrong), status=422)
@@ -517,6 +519,8 @@ class TestFiles(Uploads):
                 archive.writestr(f"{place}.csv", "x")
         text = self.browser.words(self.upload(("many.zip", out.getvalue())))
         self.assertIn("many.zip : it holds 65 files", text)
+        most = zipped({f"{place}.csv": "x" for place in range(63)} | {"halls.csv": HALLS})
+        self.assertNotIn("it holds 64 files", self.browser.words(self.upload(("most.zip", most))))
         self.assertIn("Nothing could be taken", text)
         self.assertIn("none.zip : it holds 0 files", self.browser.words(self.upload(("none.zip", zipped({})))))
         self.assertEqual(self.upload(), "/files")
