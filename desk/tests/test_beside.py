@@ -377,17 +377,36 @@ class Back(Beside):
         self.assertEqual(self.log()[-1][1:], ["0", "; ".join([self.log()[-1][2].split("; ")[0],
                                                               *(line.removeprefix("taken away: ") for line in lines)])])
 
-    def test_nothing_is_done_where_more_came_or_somebody_changed_the_office(self):
+    def answer(self, process):
+        process.stdin.write("y\n")
+        process.stdin.flush()
+
+    def test_it_asks_again_where_more_came(self):
         self.office("withdraw", "0001017", "MA-1")
-        for change, said in ((lambda: self.change(APPEAL, "HA1"), "other appeals or decisions would be taken away by now"),
-                             (lambda: self.office("withdraw", "0001000", "MA-1"), "the office has changed since you looked")):
-            process = self.ask()
-            self.question(process)
-            change()
-            before, log = snapshot.name_now(self.value), len(self.log())
-            self.assertIn(said, process.communicate("y\n")[1])
-            self.assertEqual((process.returncode, snapshot.name_now(self.value), len(self.log())), (1, before, log))
-        self.assertIn("the office is as it was", self.office("back", "2", stdin="y\n"))
+        process = self.ask()
+        self.assertNotIn("taken away", self.question(process))
+        self.change(APPEAL, "HA1")
+        self.answer(process)
+        first = "taken away: appeal 0001051 HA1 for MON-AM: open -> gone\n"
+        again = "the office has changed since the question, and nothing is done yet: put back the office of "
+        self.assertIn(first + again, self.question(process))
+        self.change(APPEAL, "HA2")
+        self.answer(process)
+        self.assertIn(first + first.replace("HA1", "HA2") + again, self.question(process))
+        self.assertEqual(process.communicate("\n")[1], "office: nothing is changed\n")
+        self.assertEqual(len(self.log()), 2)
+        self.assertIn("the office is as it was", self.office("back", "1", stdin="y\n"))
+
+    def test_it_asks_again_where_somebody_changed_the_office(self):
+        self.office("withdraw", "0001017", "MA-1")
+        process = self.ask()
+        self.question(process)
+        self.office("withdraw", "0001000", "MA-1")
+        before, log = snapshot.name_now(self.value), len(self.log())
+        self.answer(process)
+        self.assertIn("changed since the question, and nothing is done yet: put back the office of ", self.question(process))
+        self.assertEqual(process.communicate("\n")[1], "office: nothing is changed\n")
+        self.assertEqual((snapshot.name_now(self.value), len(self.log())), (before, log))
 
     def test_an_office_that_cannot_be_read(self):
         self.office("withdraw", "0001017", "MA-1")
