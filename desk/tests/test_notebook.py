@@ -412,7 +412,7 @@ class Commands(sample.SampleSchool):
         self.write("notes.csv", f"number,text\n{number},two\n")
         self.office("notes", notes)
         held = json.loads(printed.read_bytes())
-        held[number][-1] = "two"
+        held[number][-2:] = ["two"]  # without what stands behind it today
         printed.write_text(json.dumps(held), "ascii")
         self.assertEqual(self.office("printed", "MON-AM", "--look"), "the papers are up to date\n")
 
