@@ -139,8 +139,7 @@ def papers_of(before: Reading, after: Reading, session: str, among: Collection[s
         return {}
     asked = [(reading, facts.entered(reading.rows, session, 1, among)) for reading in (before, after)]
     then, now = (on_paper.lines_of(reading, session, reading.members(session, numbers)) for reading, numbers in asked)
-    moves = [move._replace(printed=paper.lines.get(move.number)) for move in on_paper.moves(then, now)
-             if move.now != paper.lines.get(move.number)]
+    moves = (move._replace(printed=paper.lines.get(move.number)) for move in on_paper.moves(then, now))
     was, shared = (on_paper.shared(reading, session) for reading in (before, after))
     others = (other for other in on_paper.others(paper.shared, shared) if was.get(other[0]) != other[2])
     return on_paper.out_of_date(after.office, moves, others, paper.lines)
@@ -193,17 +192,24 @@ def between(before: Reading, after: Reading, at_most: int | None) -> list[str]:
 def done(office: Office, copy: str, progress: Progress) -> list[str]:
     """What a change did that is carried out, in a few lines, from the copy of before and from the office as it is now.
     Where that cannot be worked out, a line says so."""
+    place = 1
     try:
         with (Reading(office, copies.file_in(office, copy), progress) as before,
               Reading(office, None, progress) as after):
-            if copies.listed(office)[:1] != [copy]:
+            if (place := place_of(office, copy)) != 1:
                 raise Trouble("the office has changed again meanwhile")
             effects = Effects(before, after)
             shown = headlines(effects.met)
-            return effects.said(shown, listing(effects.met, copies.listed(office).index(copy) + 1), MOST_NAMED)
+            return effects.said(shown, listing(effects.met, place_of(office, copy)), MOST_NAMED)
     except (Trouble, OSError, sqlite3.Error, MemoryError) as fault:
         reason = plain(str(fault)) or "there is no memory"
-        return [f"the change is done, but nobody can say what it did to candidates: {reason}; try `office changes 1`"]
+        return [f"the change is done, but nobody can say what it did to candidates: {reason}; try `office changes "
+                f"{place}`"]
+
+
+def place_of(office: Office, copy: str) -> int:
+    """The number of a copy in `office back`."""
+    return [*copies.listed(office), copy].index(copy) + 1
 
 
 def on_old_paper(papers: Mapping[str, on_paper.Papers]) -> list[Met]:

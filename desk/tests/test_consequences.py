@@ -164,9 +164,17 @@ class Told(sample.SampleSchool):
         """0001306 sits LAT and misses MA-2; then sits CS-1 and misses LAT. As many are missed, and the papers are others."""
         lines = self.told("import", "entries", self.write("e.csv", "number,paper\n0001306,CS-1\n"))
         self.assertIn("1 has a new clash: MON-AM 0001306 Sami Nagy", lines)
-        self.told("withdraw", "0001306", "MA-2")
+        self.assertNotIn("new clash", "".join(self.told("withdraw", "0001306", "MA-2")))  # two of the three are left
         self.assertIn("1 has a new clash\n  MON-AM 0001306 Sami Nagy: does not sit MA-2\n",
                       self.office("what-if", "back", "2"))
+
+    def test_the_same_rows_seated_in_another_way(self):
+        """Who comes back finds the last desk that suits taken by another."""
+        for word in "withdraw", "reinstate":
+            self.told(word, "0001187", "CH-1")
+        told = self.office("changes", "2", "--tell")
+        self.assertRegex(told, r"\A1 loses the desk:\n! TUE-AM 0001187 .*: LIB desk \d -> no desk\n1 gets a desk:\n! TUE-AM ")
+        self.assertRegex(self.office("what-if", "back", "2"), r"\n1 loses the desk\n  TUE-AM .*\n1 gets a desk\n")
 
     def test_who_is_not_touched_is_not_spoken_of(self):
         same = str(self.examples / "entries.csv")
@@ -329,7 +337,7 @@ class Told(sample.SampleSchool):
         self.office("withdraw", "0001306", "LAT")
         self.assertEqual(effects.done(self.value, carried.copy, lambda *_: None),
                          ["the change is done, but nobody can say what it did to candidates: the office has changed "
-                          "again meanwhile; try `office changes 1`"])
+                          "again meanwhile; try `office changes 2`"])
         newest = copies.listed(self.value)[0]
         lines = effects.done(self.value, newest, lambda *_: None)
         self.assertTrue(lines[0].startswith("1 sits another paper: MON-AM 0001306 "), lines)
