@@ -5,7 +5,7 @@ import re
 from collections.abc import Iterable, Mapping
 from typing import Any, NamedTuple
 
-from exam_desk import facts, lists, logbook, notebook, second_sitting, words
+from exam_desk import facts, lists, logbook, notebook, overlaps, second_sitting, words
 from exam_desk.office import Office
 from exam_desk.reading import Member, Reading
 
@@ -21,6 +21,7 @@ ON = {  # which papers show what
     "date": ALL, "start": ALL, "finish": "doors counts slips", "needs": "doors slips", "extra": "doors slips",
     "misses": "doors slips", "note": "doors slips", "elsewhere": "doors",
     "paper title": "doors cards counts slips", "hall title": ALL, "desks": "doors chart", "open until": "doors",
+    "other sessions": "doors poster chart",
     "rows": "chart", OF_SCHOOL: "doors signatures poster chart board counts slips"}
 Papers = dict[str, list[str]]  # which are out of date, each with its halls; none where it is of the whole session
 Other = tuple[str, str, str]  # what is another, its value on paper, and now
@@ -123,9 +124,11 @@ def shared(reading: Reading, session: str) -> dict[str, str]:
     """As `of_notebook`, with what papers of a session show of papers and halls."""
     found = of_notebook(reading.office)
     found |= {f"{paper}{OF}paper title": title for paper, title in facts.paper_titles(reading.rows).items()}
+    others = overlaps.in_halls(reading, session)
     for each in facts.openings(reading.rows, session):
         found |= {f"{each.hall}{OF}hall title": each.title, f"{each.hall}{OF}desks": str(each.desks),
-                  f"{each.hall}{OF}open until": words.clock(each.until)}
+                  f"{each.hall}{OF}open until": words.clock(each.until),
+                  f"{each.hall}{OF}other sessions": "; ".join(others.get(each.hall, []))}
     return found
 
 

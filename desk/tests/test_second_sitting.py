@@ -219,7 +219,12 @@ class There(SecondSitting):
                       "MON-AM-2\n", said)
 
     def test_others_in_the_hall_are_noted(self):
+        self.office("printed", "MON-PM")
         said = self.second("0000003", "MA-1", "12:30", "GYM")
+        self.assertIn("  MON-PM (doors, poster of GYM): ", said)
+        self.assertRegex(self.office("printed", "MON-PM", "--look"),
+                         "^GYM: other sessions - -> also here from 13:30 to 14:30: session MON-AM-2, .*\nto print again: "
+                         "doors, poster of GYM\n$")
         self.assertIn("1 hall has candidates of two sessions at one time\n"
                       "  MON-AM-2 and MON-PM in GYM: both number their desks from 1\n", said)
         self.assertNotIn("NOTE", said)
