@@ -4,7 +4,7 @@ import functools
 import itertools
 import sqlite3
 from collections import Counter, defaultdict
-from collections.abc import Iterable, Iterator, Mapping
+from collections.abc import Collection, Iterable, Iterator, Mapping, Sequence
 from typing import NamedTuple
 
 from exam_desk import copies, facts, lists, logbook, notebook, on_paper, overlaps, telling
@@ -57,7 +57,7 @@ class Effects:
         self.clashes = [*new_clashes(before, after, self.touched)]
         self.overlaps = [(each, by_name(after, each.candidates)) for each in overlaps.new(before, after, self.touched)]
         self.over, self.opened = over(self), opened(before, after)
-        self.out_of_date = {code: papers for code in self.touched if (papers := out_of_date(before, after, code))}
+        self.out_of_date = out_of_date(before, after, self.touched)
         self.codes = by_name(after, [key for key, column, *_ in telling.other_values(before, after, ["candidates"])
                                      if column == "code"])
 
@@ -134,13 +134,23 @@ def opened(before: Reading, after: Reading) -> dict[tuple[str, str], str]:
     return {each: closed[each] for each in new if each in closed}
 
 
-def out_of_date(before: Reading, after: Reading, session: str) -> on_paper.Papers:
-    """The papers that are noted as printed and show those who are otherwise than before and not as on paper, or what
-    lines share and is another."""
+def out_of_date(before: Reading, after: Reading, touched: Sequence[str]) -> dict[str, on_paper.Papers]:
+    """By session the papers that a change in some sessions makes out of date; sheets of others name what somebody sits
+    there."""
+    printed = notebook.sessions_with(after.office, "printed")
+    met = {number for reading in (before, after) for code in touched if printed
+           for number in facts.entered(reading.rows, code)}
+    return {code: papers for code in dict.fromkeys([*touched, *printed])
+            if code in printed and (papers := papers_of(before, after, code, None if code in touched else met))}
+
+
+def papers_of(before: Reading, after: Reading, session: str, among: Collection[str] | None) -> on_paper.Papers:
+    """The papers that are noted as printed and show those who are otherwise than before and not as on paper, of some
+    candidates or of all, or what lines share and is another."""
     paper = on_paper.noted(after.office, session)
     if not paper.lines:
         return {}
-    asked = [(reading, facts.entered(reading.rows, session)) for reading in (before, after)]
+    asked = [(reading, facts.entered(reading.rows, session, 1, among)) for reading in (before, after)]
     then, now = (on_paper.lines_of(reading, session, reading.members(session, numbers)) for reading, numbers in asked)
     moves = (move._replace(printed=paper.lines.get(move.number)) for move in on_paper.moves(then, now))
     was, shared = (on_paper.shared(reading, session) for reading in (before, after))

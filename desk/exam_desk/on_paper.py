@@ -3,9 +3,9 @@ import hashlib
 import itertools
 import re
 from collections.abc import Iterable, Mapping
-from typing import NamedTuple
+from typing import Any, NamedTuple
 
-from exam_desk import facts, lists, logbook, notebook, words
+from exam_desk import facts, lists, logbook, notebook, overlaps, second_sitting, words
 from exam_desk.office import Office
 from exam_desk.reading import Member, Reading
 
@@ -19,8 +19,9 @@ ON = {  # which papers show what
     "desk": "doors signatures poster cards chart board slips",
     "name": "doors signatures poster cards chart board slips", "paper": "doors signatures cards chart counts slips",
     "date": ALL, "start": ALL, "finish": "doors counts slips", "needs": "doors slips", "extra": "doors slips",
-    "misses": "doors slips", "note": "doors slips",
+    "misses": "doors slips", "note": "doors slips", "elsewhere": "doors",
     "paper title": "doors cards counts slips", "hall title": ALL, "desks": "doors chart", "open until": "doors",
+    "other sessions": "doors poster chart",
     "rows": "chart", OF_SCHOOL: "doors signatures poster chart board counts slips"}
 Papers = dict[str, list[str]]  # which are out of date, each with its halls; none where it is of the whole session
 Other = tuple[str, str, str]  # what is another, its value on paper, and now
@@ -39,6 +40,7 @@ class Line(NamedTuple):
     extra: str = ""
     misses: str = ""
     note: str = ""  # as `sum_of` has it
+    elsewhere: str = ""  # what invigilators are to know of other sessions; "" in files of earlier versions
 
 
 class Move(NamedTuple):
@@ -86,18 +88,24 @@ def noted(office: Office, session: str) -> Paper:
     found = notebook.read(office, f"printed.{session}") or {}
     found.pop(NOTED, None)
     common = {what: parts[0] for what, parts in found.items() if OF in what}
-    lines = {number: Line._make([*parts[:-1], sum_of(parts[-1])]) if len(parts) == len(Line._fields) else
-             Line(*parts[:2]) for number, parts in found.items() if number not in common}
-    return Paper(lines, common)
+    return Paper({number: line_of(parts) for number, parts in found.items() if number not in common}, common)
+
+
+def line_of(parts: list[Any]) -> Line:
+    """What a file says of somebody; files of earlier versions have less."""
+    line = Line(*parts[:2]) if len(parts) < len(Line._fields) - 1 else Line(*parts[:len(Line._fields)])
+    return line._replace(note=sum_of(line.note))
 
 
 def lines_of(reading: Reading, session: str, members: Iterable[Member]) -> dict[str, Line]:
     """What papers of a session show of these members."""
     notes, members = notebook.notes(reading.office), [*members]
     missed = reading.clashes(session, facts.entered(reading.rows, session, 2, {each.number for each in members}))
+    elsewhere = second_sitting.elsewhere(reading, members)
     return {number: Line(sits.hall or "", sits.desk or 0, name, sits.paper, sits.date, sits.start, sits.finish,
                          "+".join(sits.needs), str(sits.extra), "+".join(missed.get(number, ())),
-                         sum_of(notes.get(number, ""))) for number, name, sits in members}
+                         sum_of(notes.get(number, "")), "; ".join(elsewhere[number]))
+            for number, name, sits in members}
 
 
 def sum_of(note: str) -> str:
@@ -116,9 +124,11 @@ def shared(reading: Reading, session: str) -> dict[str, str]:
     """As `of_notebook`, with what papers of a session show of papers and halls."""
     found = of_notebook(reading.office)
     found |= {f"{paper}{OF}paper title": title for paper, title in facts.paper_titles(reading.rows).items()}
+    others = overlaps.in_halls(reading, session)
     for each in facts.openings(reading.rows, session):
         found |= {f"{each.hall}{OF}hall title": each.title, f"{each.hall}{OF}desks": str(each.desks),
-                  f"{each.hall}{OF}open until": words.clock(each.until)}
+                  f"{each.hall}{OF}open until": words.clock(each.until),
+                  f"{each.hall}{OF}other sessions": "; ".join(others.get(each.hall, []))}
     return found
 
 
