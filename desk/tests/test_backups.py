@@ -17,10 +17,10 @@ from exam_desk.office import Stale, Trouble
 APPEAL = "INSERT INTO appeal VALUES (1051, 'HA1', 'MON-AM', 1, 'PC1', 0, 0, 'x', 1, NULL, '2027-05-01')"
 
 
-def zipped(parts):
+def zipped(parts, form=zipfile.ZIP_DEFLATED):
     """A zip of these parts, by name."""
     out = io.BytesIO()
-    with zipfile.ZipFile(out, "w", zipfile.ZIP_DEFLATED) as archive:
+    with zipfile.ZipFile(out, "w", form) as archive:
         for name, content in parts.items():
             archive.writestr(name, content)
     return out.getvalue()
@@ -155,6 +155,7 @@ class TestRefused(Backups):
                               (backups.BROKEN, whole[:-40]), ("it has a password", bytes(locked)),
                               (backups.BROKEN, bytes(lying)),
                               *((backups.BROKEN, each) for each in misleading({"office.db": self.first})),
+                              (backups.BROKEN, zipped({"a": bytes(99)}, zipfile.ZIP_LZMA).replace(b"\xdf\xff\xff", b"xxx")),
                               (backups.BROKEN, whole[:len(whole) // 2] + b"x" * 9 + whole[len(whole) // 2 + 9:]),
                               (r"this copy is no good office \(bad office", self.zip(**{"office.db": self.bytes_of("other.db")})),
                               (r"this copy is no good office \(bad seat", zipped({
