@@ -299,6 +299,13 @@ class Log(Beside):
         self.assertEqual([line for line in self.log()[1:] if line[1] != "begins"], [
             [" ".join(words), "1", "broken off"], [" ".join(words), "1", "stopped: look whether it is done"]])
 
+    def test_nothing_in_a_line_is_a_line_or_a_column(self):
+        """The name of a file that a browser brings can hold all letters."""
+        forged = "take a\t0\tdone\n2027-01-01 00:00:00\troot\tinit\t0\tready\x1b[2J\u2028\u202e"
+        logbook.write(self.value, [forged], 0, forged)
+        shown = "take a?0?done?2027-01-01 00:00:00?root?init?0?ready?[2J??"
+        self.assertEqual(self.log(), [[shown, "0", shown]])
+
     def test_a_copy_says_what_it_is_from_before(self):
         """In the words of the log, cut between two words where they are many; the name of its folder has fewer letters."""
         said = "import halls é.csv for A B: C .., import openings x_1.csv for S1 A"
