@@ -124,8 +124,7 @@ def out_of_date(before: Reading, after: Reading, session: str) -> on_paper.Paper
     paper = on_paper.noted(after.office, session)
     if not paper.lines:
         return {}
-    asked = [(reading, facts.entered(reading.rows, session)) for reading in (before, after)]
-    then, now = (on_paper.lines_of(reading, session, reading.members(session, numbers)) for reading, numbers in asked)
+    then, now = (on_paper.lines_of(reading, session) for reading in (before, after))
     moves = [move._replace(printed=paper.lines.get(move.number)) for move in on_paper.moves(then, now)
              if move.now != paper.lines.get(move.number)]
     was, shared = (on_paper.shared(reading, session) for reading in (before, after))
