@@ -150,8 +150,7 @@ def papers_of(before: Reading, after: Reading, session: str, among: Collection[s
     paper = on_paper.noted(after.office, session)
     if not paper.lines:
         return {}
-    asked = [(reading, facts.entered(reading.rows, session, 1, among)) for reading in (before, after)]
-    then, now = (on_paper.lines_of(reading, session, reading.members(session, numbers)) for reading, numbers in asked)
+    then, now = (on_paper.lines_of(reading, session, among) for reading in (before, after))
     moves = (move._replace(printed=paper.lines.get(move.number)) for move in on_paper.moves(then, now))
     was, shared = (on_paper.shared(reading, session) for reading in (before, after))
     others = (other for other in on_paper.others(paper.shared, shared) if was.get(other[0]) != other[2])

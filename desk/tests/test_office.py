@@ -120,7 +120,8 @@ class Words(sample.SampleSchool):
         is_open = all(above.stat().st_mode & 0o011 for above in pathlib.Path(self.folder).parents)
         self.office("printed", "MON-AM")
         for words, mode, folder, is_said in (
-                (["printed", "MON-AM", "--look"], 0o604, 0o755, True),  # needs and extra time, before and now
+                *(([*words], 0o604, 0o755, True) for words in (  # with needs, notes or reasons
+                    ["printed", "MON-AM", "--look"], ["changes", self.path], ["why", "MON-AM"], ["notes"], ["appeals-open"])),
                 (["slips", "--codes"], 0o644, 0o755, True), (["doors", "MON-AM"], 0o640, 0o755, True),
                 (["look", "1051"], 0o600, 0o755, False), (["look", "1051"], 0o644, 0o700, False),
                 (["look", "1051"], 0o604, 0o755, True), (["poster", "MON-AM"], 0o644, 0o755, False)):
