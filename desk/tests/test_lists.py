@@ -258,6 +258,8 @@ class Lists(sample.SampleSchool):
         self.assertEqual([name for name in os.listdir(self.folder) if name.endswith(".csv")], [])
         self.assertRegex(self.office("back"), "before codes 0001051\n")
         self.assertIn("the office has no candidate 0009999", self.refused("codes", "1051", "9999"))
+        with mock.patch("secrets.choice", side_effect="WK3DEGZDPC" + "D" * 10):  # the code of 0001000
+            self.assertIn(b'"Di Berg","DDDDDDDDDD"', coding.other_rows(self.value, ["0001051"]).data)
 
     def faults(self, session, change=lambda sheet: sheet):
         with Reading(self.value) as reading:

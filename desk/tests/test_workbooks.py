@@ -250,6 +250,12 @@ class Told(unittest.TestCase):
                           *(f"Sessions!B{row}" for row in range(3, 7)), "Candidates!A2:A5", "Candidates!A6:A9"],
                          [told[0], *(line.partition(":")[0] for line in told[1:5]), *(line.rpartition(": ")[0] for line in told[5:7])])
 
+    def test_nothing_is_said_of_what_is_not_read_or_above_the_first_row(self) -> None:
+        rows = [*cases.CANDIDATES, "Age"], [None, "Ada", "CODE0001", ("f", "1+1", 2)]
+        lines = read_book(unpacked(child.read(rawbook.xlsx(cases.sheet("Candidates", *rows)))), Job(Known())).lines
+        self.assertEqual(["Candidates!D1: NOTE: the column 'Age' is not read", "Candidates!A2: MISTAKE: number is missing"],
+                         [line.whole() for line in lines])
+
     def test_what_differs_stands_apart(self) -> None:
         other = Sheet("Form 2")
         for sheet, column, text in [(self.sheet, 1, "is missing"), (other, 1, "is missing"), (other, 2, "is missing"),

@@ -233,6 +233,8 @@ case("rooms-without-features", xlsx(candidates(ADA), sheet("Rooms of 2026", HALL
 case("entries-with-two-names", xlsx(TWO_PAPERS, sheet("Entries", ["number", "Vorname", "Nachname", "paper"], ["0000001", "Ada", "Lin", "MA-1"])),
      files={"papers": ["MA-1,Maths,S1,90,-", "FR,French,S1,60,-"], "entries": ["0000001,MA-1"]},
      told=[[f"Entries!{letter}1", "is not read"] for letter in "BC"])
+case("first-name-alone", xlsx(sheet("Candidates", ["number", "Vorname", "Nachname", "code"], ["0000001", "Ada", None, "CODE0001"])),
+     files={"candidates": ["0000001,Ada,CODE0001"]})
 case("header-repeated-in-part", xlsx(candidates(ADA, ["number", None, None])), 1, mistakes=[["Candidates!A3", "number 'number'"]])
 case("day-12-beside-a-text", xlsx(sheet("Sessions", SESSIONS, ["S1", ("n", "46550", DATE), "09:00"], ["S2", "13/06/2027", "09:00"])),
      1, mistakes=[["Sessions!B2", "2027-06-12", "a mixture"]])
