@@ -178,7 +178,7 @@ class Limits(unittest.TestCase):
             opening.open_book(str(HERE))
 
     def test_no_text_takes_long(self) -> None:
-        """Marks on letters, which are put in order; digits and brackets that have no end."""
+        """Marks on letters, which are put in order; digits and brackets that have no end; spaces between features."""
         began, many = time.process_time(), 100_000
         for number, name, said in ((1, many * "\u0301" + many * "\u0327", "has 200,000 letters; at most 1000 are looked at"),
                                    (("n", many * "1" + "x"), "Ada", "is no number"),
@@ -187,6 +187,9 @@ class Limits(unittest.TestCase):
             with contextlib.suppress(Trouble):
                 data = "".join(line.whole() for line in read_book(unpacked(data), Job(Known())).lines).encode()
             self.assertIn(said, data.decode())
+        needs = [[f"{place:07}", f"a{950 * ' '}{place}", 0] for place in range(1, 301)]
+        job = read_book(unpacked(child.read(rawbook.xlsx(cases.sheet("Arrangements", cases.ARRANGEMENTS, *needs)))), Job(Known()))
+        self.assertEqual(300, job.count("mistake"))
         self.assertLess(time.process_time() - began, 10)
 
     def test_merged_cells_have_a_limit(self) -> None:
@@ -272,10 +275,11 @@ class Mending(unittest.TestCase):
     def test_the_choices_of_others_stay(self) -> None:
         """All files of a kind are one list, and no workbook after them is read so for that."""
         with tempfile.TemporaryDirectory() as folder:
-            for name in ("entries.csv", "entries-2.csv"):
-                pathlib.Path(folder, name).write_text("number,paper\n0000001,MA-1\n", "utf-8")
+            for place, name in enumerate(("entries.csv", "entries-2.csv", "entries-10.csv"), 1):
+                pathlib.Path(folder, name).write_text(f"number,paper\n000000{place},MA-1\n", "utf-8")
             job = mend_folder(folder, Job(Known()), None, lambda text: None)
-        self.assertEqual((2, 0), (len(job.records["entries"]), job.count("mistake")))
+        self.assertEqual((["0000001", "0000002", "0000003"], 0),
+                         ([record.fields[0] for record in job.records["entries"]], job.count("mistake")))
         self.assertEqual([], Job(Known()).together)
 
     def test_a_second_file_is_of_its_kind_whatever_it_has(self) -> None:

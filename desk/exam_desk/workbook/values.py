@@ -227,7 +227,7 @@ def read_features(column: str, cell: Cell, text: str, way: Way) -> Value:
         return Value("-", "empty is none" if not word else "none" if text != "-" else "")
     taught = way.words.get(column, {})
     found: set[str] = set()
-    for part in filter(None, re.split(r"\s*(?:[+,;/&|\n\r]|\band\b|\bund\b)\s*", word)):
+    for part in filter(None, map(str.strip, re.split(r"[+,;/&|\n\r]|\band\b|\bund\b", word))):
         short = re.sub("[ _-]", "", part)
         meant = taught.get(part) or SHORT_FEATURES.get(short)
         if meant is None:
