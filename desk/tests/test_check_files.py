@@ -149,7 +149,7 @@ class Verdicts(sample.SampleSchool):
         done = self.run_office("check-files", "facts", OFFICE=none)
         self.assertEqual((done.returncode, done.stderr), (1, ""))
         self.assertEqual(done.stdout, f"{line}7 files, 0 mistakes, 0 notes\n")
-        self.assertIn(line, self.run_office("check-files", "facts").stdout)
+        self.assertEqual(self.run_office("check-files", "facts").stdout, f"{line}7 files, 0 mistakes, 0 notes\n")
         self.assertIn("refused 1 record 1 column 3\n", self.refused("import", "candidates", path))
         self.assertIn("candidates!C2:C61: code (empty) became the one that the office has; 60 times\n",
                       self.office("take", "facts", "--yes"))

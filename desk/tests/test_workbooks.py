@@ -285,11 +285,12 @@ class Mending(unittest.TestCase):
     def test_a_second_file_is_of_its_kind_whatever_it_has(self) -> None:
         with tempfile.TemporaryDirectory() as folder:
             for name, text in (("halls.csv", ""), ("entries.csv", "number,paper\n0000001,MA-1\n"),
-                               ("entries-2.csv", "Nummer,Kurs\n2,MA-1\n")):
+                               ("entries-2.csv", "Nummer,Kurs\n2,MA-1\n"), ("Pupils.XLSX", "")):
                 pathlib.Path(folder, name).write_text(text, "utf-8")
             lines = [line.whole() for line in mend_folder(folder, Job(Known()), None, lambda text: None).lines]
-        self.assertEqual("halls: NOTE: is empty, so it is not read", lines[0])
-        self.assertRegex(lines[1], "^'entries-2'!1: MISTAKE: no row is a header with number and paper")
+        self.assertEqual(["NOTE: Pupils.XLSX is none of the seven files; it is not read",
+                          "halls: NOTE: is empty, so it is not read"], lines[:2])
+        self.assertRegex(lines[2], "^'entries-2'!1: MISTAKE: no row is a header with number and paper")
 
     def test_the_code_of_the_office_stands_where_none_is(self) -> None:
         known = Known()
