@@ -2,11 +2,12 @@
 imports of what was read from a workbook, or from a folder of import files."""
 from __future__ import annotations
 
+import os
 import secrets
 from collections.abc import Mapping
 from typing import TYPE_CHECKING
 
-from exam_desk import files, lists, mistakes, snapshot
+from exam_desk import facts, files, lists, mistakes, snapshot
 from exam_desk.changing import Step
 from exam_desk.office import Office, NoCandidate, Trouble
 
@@ -46,11 +47,27 @@ def filled(rows: list[list[str]], known: Mapping[str, str]) -> tuple[list[list[s
     return [[number, name, code or codes[number]] for number, name, code in rows], len(codes) - had
 
 
-def other_rows(office: Office, numbers: list[str], name: str | None = None) -> Step:
-    """The import of candidates with another name and the same code, or without a name with another code. Raises
-    `Trouble` where nobody has a number, or it is no name."""
+def coded(office: Office, path: str, new: list[str]) -> tuple[list[list[str]], int, int]:
+    """The rows of a file, each with a code: its own, else that of the office, else a new one, as those get who are to
+    have a new one; how many are new, and how many are the office's. Raises `Trouble` as `read`."""
+    rows, known = read(files.read(path, office.warn), path), dict[str, str]()
+    if os.path.exists(office.path):
+        with snapshot.rows(office) as connection:
+            known = facts.access_codes(connection)
+    if missing := [number for number in new if number not in {row[0] for row in rows}]:
+        raise Trouble(f"{missing[0]} is not in {path}")
+    empty = [[number, name, "" if number in new else code] for number, name, code in rows]
+    known = {number: code for number, code in known.items() if number not in new}
+    found, made = filled(empty, known)
+    return found, made, sum(not code and number in known for number, _, code in empty)
+
+
+def other_rows(office: Office, numbers: list[str], name: str | None = None) -> tuple[Step, str]:
+    """The import of candidates with another name and the same code, or without a name with another code; and the name
+    of the state that it is for. Raises `Trouble` where nobody has a number, or it is no name."""
     with snapshot.rows(office) as connection:
         rows = {row[0]: row for row in files.rows_of(connection, "candidates")}
+        state = snapshot.name_of(connection)
     if missing := [number for number in numbers if number not in rows]:
         raise NoCandidate(missing[0])
     if name is not None and not files.is_name(name.encode("utf-8", "surrogateescape")):
@@ -59,7 +76,7 @@ def other_rows(office: Office, numbers: list[str], name: str | None = None) -> S
     changed = [[number, rows[number][1], new_code(taken)] if name is None else [number, name, rows[number][2]]
                for number in dict.fromkeys(numbers)]
     title = f"{'name' if name is not None else 'code'} of {', '.join(numbers)}"
-    return Step(("import", "candidates", title), files.file_of("candidates", changed))
+    return Step(("import", "candidates", title), files.file_of("candidates", changed)), state
 
 
 def add_codes(job: Job) -> None:

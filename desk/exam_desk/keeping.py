@@ -23,7 +23,6 @@ import sys
 import time
 from collections.abc import Iterator, Sequence
 from io import FileIO
-from typing import NamedTuple
 
 from exam_desk import asking, beside, copies, hold, refusals, running, turns
 from exam_desk.office import Office, Trouble
@@ -43,12 +42,6 @@ QUESTION = b"GET / HTTP/1.0\r\n\r\n"  # `serve` answers it by 404
 RUNS = "`keep` serves this office already; `office keep status` says where"
 
 
-class Status(NamedTuple):
-    """Whether `keep` serves, and what is to be said of it."""
-    serves: bool
-    sentence: str
-
-
 def say(text: object) -> None:
     """Writes a line, unless the file that takes it is full: whoever makes faults all day must not fill the disk."""
     if os.fstat(sys.stderr.fileno()).st_size > MOST_LOG:  # what is no file has no size
@@ -61,8 +54,8 @@ def say(text: object) -> None:
 class Keep:
     """Serves through a `Hold` until a signal or `office keep stop` ends it."""
 
-    def __init__(self, office: Office, place: str, lock: FileIO) -> None:
-        self.office, self.place, self.lock = office, place, lock
+    def __init__(self, office: Office, place: str, lock: FileIO, days: int = copies.MOST_DAYS) -> None:
+        self.office, self.place, self.lock, self.days = office, place, lock, days
         self.hold = hold.Hold()
         self.ending = False
         self.day = office.today()  # for which it serves
@@ -158,7 +151,7 @@ class Keep:
     def keep_day(self) -> None:
         """Keeps a copy of the office at each new day, and the last of them."""
         try:
-            if path := copies.keep_day(self.office, self.day):
+            if path := copies.keep_day(self.office, self.day, self.days):
                 say(f"copy of the day in {path}")
         except (OSError, Trouble) as fault:
             say(f"no copy of the day: {fault.strerror if isinstance(fault, OSError) and fault.strerror else fault}")
@@ -215,16 +208,16 @@ def place_of(given: str) -> str:
     return os.path.join(os.path.abspath(given), SOCKET) if os.path.isdir(given) else ""
 
 
-def run(office: Office, place: str) -> None:
+def run(office: Office, place: str, days: int) -> None:
     """Serves until a signal ends it. Raises `Trouble` where another `keep` serves the office."""
     signal.signal(signal.SIGUSR1, signal.SIG_IGN)  # a command that comes before the handler need not step it aside
     with turns.lock_file(office, "keep.lock") as lock:
         if not turns.try_lock(lock, lock=fcntl.lockf):
             raise Trouble(RUNS)
-        asyncio.run(Keep(office, place, lock).run())
+        asyncio.run(Keep(office, place, lock, days).run())
 
 
-def start(office: Office, line: Sequence[str]) -> Status:
+def start(office: Office, line: Sequence[str]) -> tuple[bool, str]:
     """Runs `keep` in the background by this line, and waits until it serves. Raises `Trouble` where one runs."""
     if turns.keep_state(office) is not None:
         raise Trouble(RUNS)
@@ -253,30 +246,26 @@ def stop(office: Office) -> None:
         time.sleep(0.02)
 
 
-def ending(office: Office) -> str:
-    """How the last `keep` ended, as far as its journal says it, or what begins another."""
-    journal = beside.folder(office.path, JOURNAL)
-    with contextlib.suppress(OSError, IndexError), open(journal, encoding="utf-8", errors="replace") as file:
-        return f"the last line of {journal}: {plain(file.read().splitlines()[-1]).removeprefix('office: ')}"
-    return "`office keep start` begins it"
-
-
-def status(office: Office) -> Status:
-    """What `keep` does; it serves only where `serve` answers through it in time. Raises `Trouble` where none runs."""
+def status(office: Office) -> tuple[bool, str]:
+    """Whether `keep` serves, which it does only where `serve` answers through it in time; and what is to be said of it.
+    Raises `Trouble`, with the last line of its journal, where none runs."""
     state = turns.keep_state(office)
     if state is None:
-        raise Trouble(f"`keep` does not run; {ending(office)}")
+        lines = beside.text_of(office.path, JOURNAL).splitlines()
+        said = (f"the last line of {beside.folder(office.path, JOURNAL)}: {plain(lines[-1]).removeprefix('office: ')}"
+                if lines else "`office keep start` begins it, or as root `systemctl start examoffice` the service")
+        raise Trouble(f"`keep` does not run; {said}")
     process, fault = state["pid"], plain(state.get("state", "aside"))
     if process <= 0:
-        return Status(False, "`keep` runs in another container or on another machine: ask there")
+        return False, "`keep` runs in another container or on another machine: ask there"
     if fault == "serving":
         place, answered = state["place"], 0
         with contextlib.suppress(OSError):
             answered = asking.status_of(asking.answer(asking.Server(process, place), QUESTION, QUESTION_SECONDS))
         if answered == 404:
-            return Status(True, f"serving {plain(asking.shown(place))}, for {state['day']}, process {process}")
+            return True, f"serving {plain(asking.shown(place))}, for {state['day']}, process {process}"
         fault = f"no answer within {QUESTION_SECONDS} seconds, or more clients than it takes at once"
     means = map(str.strip, refusals.explained(office, ["serve"], fault.rpartition(": ")[2]))
     fault = "it begins, or a command has the office" if fault == "aside" else fault
     why = "; ".join([fault, *means])
-    return Status(False, f"process {process} does not serve now: {why}; it tries again by itself")
+    return False, f"process {process} does not serve now: {why}; it tries again by itself"

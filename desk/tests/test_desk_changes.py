@@ -129,10 +129,11 @@ class TestRehearsal(DeskSchool):
         before = self.seats()
         self.browser.post(page + "/do", page)
         self.assertIn("nothing was done", self.browser.words(page))
-        self.assertIn(f"withdraw {other:07} PH-1", self.browser.words(page))
+        self.assertEqual(self.browser.words(page).count(f"withdraw {other:07} PH-1"), 1)  # and not that it began
         self.assertEqual(self.seats(), before)
         self.browser.post(page + "/do", page)  # from what is shown now
         self.assertIn("What changed", self.browser.words(page))
+        self.assertNotIn("nothing was done", self.browser.words(page))
         self.assertNotEqual(self.seats(), before)
 
     def test_another_name_is_asked_once_more_where_the_code_is_another_meanwhile(self):
@@ -189,6 +190,7 @@ class TestSecondSitting(DeskSchool):
         self.assertNotIn("0001051", self.browser.words("/clashes?session=MON-AM"))
         self.assertEqual(self.browser.ask("GET", self.PAGE)[0].status, 302)
         self.assertIn("Take the second sitting back", self.browser.words("/candidates/1051"))
+        self.assertNotIn('value="LAT-2"', self.browser.get("/candidates/1000"))  # it has a form of its own
         page, _ = self.browser.post("/propose/second-back", "/candidates/1051", number="0001051", paper="LAT")
         text = self.browser.words(page)
         self.assertIn("sits CS-1 again, and misses LAT", text)
@@ -259,6 +261,17 @@ class TestAppeals(DeskSchool):
         self.browser.post(page + "/do", page)
         self.assertEqual(self.rows("SELECT state, answer FROM appeal"), [(3, "too late, sorry")])
         self.assertNotIn("late", self.log())
+
+    def test_the_next_one_can_still_be_decided(self):
+        """On the day of MON-AM nobody decides on it any more."""
+        for number, session in (("0001051", "MON-AM"), ("0001051", "TUE-AM"), ("0001119", "TUE-AM")):
+            self.office("lodge", number, session, "arrangement", "quiet", "0", "")
+        self.end()
+        self.environment["TODAY"] = "2027-06-07"
+        self.start()
+        page, _ = self.browser.post("/propose/decide", "/appeals/1051/D2", number="0001051", ref="D2", outcome="refused")
+        self.browser.post(page + "/do", page)
+        self.assertRegex(self.browser.get(page), "/appeals/1119/D1\">Next open appeal: .*TUE-AM")
 
     def test_a_reason_stands_in_no_log_and_no_argument(self):
         seen = set()
@@ -353,6 +366,7 @@ class TestBack(DeskSchool):
         self.browser.post(f"/office/copies/{key}/back", f"/office/copies/{key}")
         self.assertEqual(self.seats(), before)
         self.assertIn("(ab, desk)\tback\t0\tas it was", self.log())
+        self.assertRegex(self.browser.words("/office"), r"Answer \S+ \S+ \S+ \(ab, desk\) back ")  # the newest first
 
     def test_from_an_old_page(self):
         self.office("withdraw", "0001051", "PH-1")

@@ -112,6 +112,7 @@ class TestWhatNeedsAPerson(DeskSchool):
             self.environment["TODAY"] = today
             self.start()
             self.assertEqual(self.line("/", begin), (said, f"/sessions/{said.split(',')[0]}#absent"))
+            self.assertEqual("the office is not served" in self.browser.words("/"), today == "2027-06-08")  # before the end
             self.office("absent", "MON-AM", "--nobody")
 
     def test_the_most_urgent_stands_first(self):
@@ -168,6 +169,7 @@ class TestClashes(SmallSchool):
         self.assertIn(f"{self.ONE} S1", self.browser.words("/"))
         self.office("lodge", "0000001", "S1", "clash", "SHORT", "again")
         self.assertNotIn("two papers at once", self.browser.words("/"))
+        self.assertIn('aria-label="open: Appeal 0000001 D2"', self.browser.get("/clashes"))  # and not the refused one
 
 
 if __name__ == "__main__":

@@ -77,7 +77,8 @@ def usable_sheets(job: Job, book: Book) -> list[Sheet]:
     if missing:
         job.mistake(f"there is no sheet {', '.join(missing)}; there are: {', '.join(names)}")
     for sheet in book.sheets:
-        if job.sheets is not None and sheet.name not in job.sheets or sheet.name in job.leave:
+        is_left = sheet.hidden and job.hidden == "leave" and not job.way.is_command
+        if is_left or job.sheets is not None and sheet.name not in job.sheets or sheet.name in job.leave:
             job.note("is not read, as you said", sheet)
         elif sheet.rows:
             (hidden if sheet.hidden and job.sheets is None else usable).append(sheet)
@@ -205,7 +206,7 @@ def keep_codes(job: Job) -> None:
             record.fields[2] = code.decode()
             job.change("code (empty) became the one that the office has", record.sheet, record.row, record.columns[2])
         elif not record.fields[2]:
-            without.setdefault(record.sheet.name, []).append(record)
+            without.setdefault(place_name(record.sheet), []).append(record)
     job.lines += [Line("note", mistakes.no_codes(len(found)), found[0].sheet, [record.row for record in found],
                        found[0].columns[2], mistakes.NO_CODE) for found in without.values()]
 
