@@ -25,6 +25,7 @@ import corpus  # noqa: E402
 import harder  # noqa: E402
 import odd  # noqa: E402
 import rawbook  # noqa: E402
+from exam_desk import files  # noqa: E402
 from exam_desk.mistakes import Known  # noqa: E402
 from exam_desk.office import Trouble  # noqa: E402
 from exam_desk.workbook import cells, child, opening  # noqa: E402
@@ -326,6 +327,18 @@ class Writing(unittest.TestCase):
                 write_folder(os.path.join(folder, "none", "new"), Job(Known()), "read.txt")
 
 
+    def test_a_file_is_for_its_owner_alone_and_whole_or_not_there(self) -> None:
+        with tempfile.TemporaryDirectory() as folder:
+            before, path = os.umask(0o022), os.path.join(folder, "new")
+            try:
+                files.put(path, b"x")
+            finally:
+                os.umask(before)
+            self.assertEqual(0o600, os.stat(path).st_mode & 0o777)
+            with self.assertRaises(TypeError):
+                files.put(f"{path}er", "no bytes")  # type: ignore[arg-type]
+            self.assertEqual(["new"], os.listdir(folder))
+
     def test_a_second_file_of_a_kind_is_named(self):
         rows = [[f"{place:07}", "MA-1"] for place in range(5)]
         with tempfile.TemporaryDirectory() as folder, mock.patch("exam_desk.files.MOST_BYTES", 60):
@@ -425,8 +438,10 @@ class Commands(sample.SampleSchool):
     def test_check_files_says_what_reads_a_workbook(self) -> None:
         self.office("dump", "facts")
         pathlib.Path(self.folder, "facts", "school.xlsx").write_bytes(b"PK")
+        pathlib.Path(self.folder, "facts", "PUPILS.CSV").write_bytes(b"number")
         said = self.office("check-files", "facts")
         self.assertIn("NOTE: school.xlsx is a workbook: `office read` makes the files of it", said)
+        self.assertIn("NOTE: PUPILS.CSV is none of the seven names, so it is not looked at", said)
 
     @needs_openpyxl
     def test_a_workbook_of_many_changes_takes_few_lines(self) -> None:
