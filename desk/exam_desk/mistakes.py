@@ -101,7 +101,7 @@ class Known:
         if keys is not None:
             keys.update(row[0] for row in rows)
         if kind == "entries":
-            self.entries.update(row for row in rows if row not in self.withdrawn)
+            self.entries.update(rows)
         elif kind == "candidates":
             self.codes.update((row[0], row[2]) for row in rows)
 

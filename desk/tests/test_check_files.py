@@ -196,6 +196,15 @@ class Words(unittest.TestCase):
             "write WK3DEGZDPC (8 to 16 of A-Z and 0-9)",
             "write 0001000 (seven digits; format the column as text)", "1 to 80 bytes; it has 0"])
 
+    def test_no_more_lines_are_counted_than_there_are(self):
+        for more, last in ((0, "c.csv line 6: minutes 'x': a whole number from 1 to 600"), (1, "c.csv: .. and 1 more line on minutes")):
+            found = mistakes.Found(5)
+            for line in range(2, 7 + more):
+                found.add(line, "minutes", field=b"x")
+            lines = [*checking.lines_on("c.csv", found, "")]
+            self.assertEqual((5 + more, last), (len(lines), lines[-1]))
+        self.assertEqual("a whole number from 1 to 600", mistakes.cure("minutes", 199 * b"0" + b"90").text)  # a long value has none
+
     def test_lost_zeros_are_told_of_a_row_that_is_there_with_them(self):
         found, notes = self.mistakes_in("entries", b"number,paper\n0001000,MA-1\n1000,MA-1\n0001000,MA-1\n")
         self.assertEqual(found, ["write 0001000 (seven digits; format the column as text)"])

@@ -31,7 +31,7 @@ from exam_desk.office import Trouble  # noqa: E402
 from exam_desk.workbook import cells, child, opening  # noqa: E402
 from exam_desk.workbook.cells import Sheet, packed, unpacked  # noqa: E402
 from exam_desk.workbook.headers import read_columns  # noqa: E402
-from exam_desk.workbook.reading import (mend_folder, put_workbook, read_book, workbook_of, write_folder,
+from exam_desk.workbook.reading import (mend_folder, new_folder, put_workbook, read_book, workbook_of, write_folder,
                                         write_kind)  # noqa: E402
 from exam_desk.workbook.tables import Job, together  # noqa: E402
 
@@ -183,7 +183,7 @@ class Limits(unittest.TestCase):
         began, many = time.process_time(), 100_000
         for number, name, said in ((1, many * "\u0301" + many * "\u0327", "has 200,000 letters; at most 1000 are looked at"),
                                    (("n", many * "1" + "x"), "Ada", "is no number"),
-                                   (("n", "17", many * "["), "Ada", "a value whose number format shows nothing")):
+                                   (("n", "17", many * "["), "Ada", "a number format has 100,000 letters")):
             data = child.read(rawbook.xlsx(cases.candidates([number, name, "CODE0001"])))
             with contextlib.suppress(Trouble):
                 data = "".join(line.whole() for line in read_book(unpacked(data), Job(Known())).lines).encode()
@@ -323,6 +323,9 @@ class Writing(unittest.TestCase):
             self.assertEqual([], os.listdir(target))
             with self.assertRaisesRegex(Trouble, "must end in .xlsx"):
                 put_workbook(os.path.join(folder, "new.ods"))
+            with self.assertRaises(ZeroDivisionError), new_folder(os.path.join(folder, "other")):
+                1 / 0
+            self.assertEqual(["new"], os.listdir(folder))
             with self.assertRaisesRegex(Trouble, "the folder .*/none is not there"):
                 write_folder(os.path.join(folder, "none", "new"), Job(Known()), "read.txt")
 
@@ -341,7 +344,7 @@ class Writing(unittest.TestCase):
 
     def test_a_second_file_of_a_kind_is_named(self):
         rows = [[f"{place:07}", "MA-1"] for place in range(5)]
-        with tempfile.TemporaryDirectory() as folder, mock.patch("exam_desk.files.MOST_BYTES", 60):
+        with tempfile.TemporaryDirectory() as folder, mock.patch("exam_desk.files.MOST_BYTES", 54):  # two rows
             self.assertEqual("entries: 5, in entries.csv and entries-2.csv and entries-3.csv", write_kind(folder, "entries", rows))
             self.assertEqual("halls: 1", write_kind(folder, "halls", [["A", "B", "-"]]))
             self.assertEqual(4, len(os.listdir(folder)))

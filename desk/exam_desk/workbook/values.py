@@ -302,7 +302,7 @@ def read_time(column: str, cell: Cell, text: str, way: Way) -> Value:
         raise Wrong("midnight? Write 24:00 as text if the hall is open until then")
     if "day" in said:
         return Value(time, "the time of the cell", day=said["day"])
-    is_never = column == "until" and time == "00:00" and ":" in text
+    is_never = column == "until" and time == "00:00"
     return Value(time, "", "a hall that is open until 00:00 suits nobody; midnight is 24:00" * is_never)
 
 
