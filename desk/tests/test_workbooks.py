@@ -323,6 +323,11 @@ class Writing(unittest.TestCase):
             self.assertEqual([], os.listdir(target))
             with self.assertRaisesRegex(Trouble, "must end in .xlsx"):
                 put_workbook(os.path.join(folder, "new.ods"))
+            job = Job(Known())
+            job.note("a\x1b\u202eb\nc")
+            write_folder(os.path.join(folder, "harmless"), job, "read.txt")
+            self.assertEqual("NOTE: a??b?c\n", pathlib.Path(folder, "harmless", "read.txt").read_text("utf-8"))
+            shutil.rmtree(os.path.join(folder, "harmless"))
             with self.assertRaises(ZeroDivisionError), new_folder(os.path.join(folder, "other")):
                 1 / 0
             self.assertEqual(["new"], os.listdir(folder))

@@ -244,6 +244,11 @@ case("two-values-of-all-rows-that-nobody-knows", xlsx(sheet("Sessions", SESSIONS
 case("groups-in-a-hidden-group", ods('<table:table table:name="Candidates">' + ods_row(*CANDIDATES) + '<table:table-row-group table:display="false">'
      "<table:table-row-group>" + ods_row(*ADA) + "</table:table-row-group></table:table-row-group></table:table>"), 1, suffix="ods", only=True,
      mistakes=[["Candidates!2", "is hidden"]])
+case("rows-repeated", ods('<table:table table:name="Candidates">' + ods_row(*CANDIDATES) + ods_row(*ADA, number_rows_repeated="2")
+     + ods_row(number_rows_repeated="3") + ods_row("x", *BO[1:]) + "</table:table>"), 1, suffix="ods", only=True,
+     told=[["Candidates!3", "the same as Candidates!2"]], mistakes=[["Candidates!A7", "number 'x'"]])
+case("dates-of-the-command-and-of-a-file", xlsx(sheet("Sessions", SESSIONS, ["S1", "01/06/2027", "09:00"])), files={"sessions": ["S1,2027-06-01,09:00"]},
+     args=["--dates", "day-first", "--columns", "{here}/columns.toml"], beside={"columns.toml": 'dates = "month-first"\n'})
 case("first-name-alone", xlsx(sheet("Candidates", ["number", "Vorname", "Nachname", "code"], ["0000001", "Ada", None, "CODE0001"])),
      files={"candidates": ["0000001,Ada,CODE0001"]})
 case("header-repeated-in-part", xlsx(candidates(ADA, ["number", None, None])), 1, mistakes=[["Candidates!A3", "number 'number'"]])
