@@ -330,6 +330,7 @@ class TestNotNow(DeskSchool):
         self.browser.post(page + "/do", page)
         self.assertNotIn(REASON, self.log())
         self.assertNotIn(REASON, self.left(page, done=True)[1].partition('id="lodge"')[2])
+        self.assertNotIn("Nothing was done", self.browser.get(path.partition("#")[0]))  # from the browser's history
         page, _ = self.browser.post("/propose/decide", "/appeals/1051/D1", number="0001051", ref="D1",
                                     outcome="refused", reason="no 'asthma' here")
         text = self.left(page)[1]
@@ -394,7 +395,7 @@ class TestBack(DeskSchool):
 class TestBesideKeep(DeskSchool):
     def test_no_answer_of_a_candidate_is_lost(self):
         port = sample.free_port()
-        for wrong in ("80", "0090009999"):
+        for wrong in ("80", "1023", "65536", "0090009999"):
             self.browser.post("/office/keep", "/office", 422, what="start", port=wrong)
         with socket.create_server(("127.0.0.1", 0)) as other:
             _, text = self.browser.post("/office/keep", "/office", 422, what="start", port=str(other.getsockname()[1]))
