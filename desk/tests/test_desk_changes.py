@@ -122,8 +122,10 @@ class TestRehearsal(DeskSchool):
         self.assertEqual(self.log().count("withdraw 0001051 PH-1\tbegins"), 1)
 
     def test_another_officer_meanwhile(self):
-        page, _ = self.browser.post("/propose/withdraw", "/candidates/1051", number="0001051", paper="PH-1")
-        self.browser.get(page)
+        form = {"number": "0001051", "paper": "PH-1"}
+        for state, is_old in ({"state": "0" * 64}, True), ({}, False):
+            page, _ = self.browser.post("/propose/withdraw", "/candidates/1051", **form, **state)
+            self.assertEqual("has changed since the page that you came from" in self.browser.words(page), is_old)
         other = self.rows("SELECT number FROM entry WHERE paper = 'PH-1' AND number <> 1051")[0][0]
         self.office("withdraw", f"{other:07}", "PH-1")
         before = self.seats()
@@ -386,7 +388,8 @@ class TestBack(DeskSchool):
         lines = re.findall('name="lost" value="([^"]+)"', self.browser.get(page))
         self.assertEqual(len(lines), 2)
         for some in ([], lines[:1]):
-            self.browser.post(page + "/back", page, 422, lost=some)
+            _, text = self.browser.post(page + "/back", page, 422, lost=some)
+            self.assertEqual(text.count(" checked"), len(some))
         self.assertEqual(len(self.rows("SELECT * FROM appeal")), 2)
         self.browser.post(page + "/back", page, lost=[line.replace("&gt;", ">") for line in lines])
         self.assertEqual(self.rows("SELECT * FROM appeal"), [])

@@ -377,6 +377,14 @@ class TestFiles(Uploads):
         self.assertEqual(self.live(), before - {numbers[2]})
         self.assertIn("withdraw --list", self.office("back"))
 
+    def test_a_list_for_another_state(self):
+        """Somebody else withdraws an entry of it meanwhile."""
+        numbers, page = self.listed()
+        proposal, before = self.propose(page, choice="withdraw"), self.live()
+        self.office("withdraw", numbers[0], "EN-1")
+        self.assertIn("go back to the form", self.carry_out(proposal))
+        self.assertEqual(self.live(), before - {numbers[0]})
+
     def test_a_list_has_the_zeros_back_that_a_spreadsheet_took(self):
         """Each number that lacks them has a cure that is clear; one button takes all."""
         numbers, _ = self.listed()
