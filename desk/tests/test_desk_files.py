@@ -186,6 +186,10 @@ class TestFiles(Uploads):
         text = self.browser.words(page)
         self.assertIn("No mistake", text)
         self.assertIn("0012001", self.browser.ask("GET", page + "/candidates.csv")[1])
+        large = io.BytesIO(workbook({"Halls": [["hall", "title", "features"], ["R20", "Room", "-"]]}))
+        with zipfile.ZipFile(large, "a") as archive:  # with a picture it has more bytes than an import file
+            archive.writestr("xl/media/picture.png", bytes(5_000_000))
+        self.assertIn("No mistake", self.browser.words(self.upload(("halls.xlsx", large.getvalue()))))
         page = self.upload(("students.xlsx", workbook({
             "Sessions": [["session", "date", "start"], ["X-1", "01/06/2027", "9:00"]],
             "Candidates": [["number", "name", "code"], [12001, "Nadia", "K4WBN7RTQD"]]})))
