@@ -31,11 +31,11 @@ CANDIDATES = ("SELECT (SELECT count(*) FROM now.candidate), (SELECT count(*) FRO
               "ON old.number = new.number AND (old.name = new.name OR old.code = new.code))")
 
 
-def keep_copy(office: Office, command: str) -> str:
+def keep_copy(office: Office, command: str, used: str = "") -> str:
     """Copies the office from before a command; gives the path. Call it with the office alone. The running number is one
-    more than the highest, so that the order does not depend on the clock."""
+    more than the highest, so that the order does not depend on the clock. A copy that the command uses stays."""
     copy = make(office, PLACE, named(max(map(number_of, listed(office)), default=0) + 1, command), command)
-    prune(office)
+    prune(office, used)
     return copy
 
 
@@ -141,13 +141,14 @@ def chosen(office: Office, number: int) -> str:
     return found[number - 1]
 
 
-def prune(office: Office) -> None:
-    """Removes the oldest copies: what is beyond MOST_COPIES, or beyond MOST_BYTES in all; the last one stays."""
+def prune(office: Office, used: str) -> None:
+    """Removes the oldest copies: what is beyond MOST_COPIES, or beyond MOST_BYTES in all; the last one stays, and one
+    that is used."""
     room = MOST_BYTES
     for place, copy in enumerate(listed(office)):
         with contextlib.suppress(OSError):
             room -= sum(entry.stat().st_size for entry in os.scandir(copy))
-        if place > 0 and (place >= MOST_COPIES or room < 0):
+        if place > 0 and copy != used and (place >= MOST_COPIES or room < 0):
             drop(copy)
 
 
@@ -210,25 +211,10 @@ def move_in(office: Office, path: str) -> None:
     beside.sync(os.path.dirname(place))
 
 
-def put_back(office: Office, copy: str) -> str | None:
-    """Puts a copy in the place of the office, with the office alone; both are on the disk at each moment. The copy of
-    what was there, None where nothing was: then a backup brings its notebook. `Trouble` where it is no good office."""
-    with ready(office, copy) as path:
-        check(office, path)
-        kept: str | None = None
-        when, what = when_and_what(copy)
-        if os.path.exists(os.path.realpath(office.path)):
-            kept = keep_copy(office, f"{BACK}{what if is_brought(copy) else when}")
-        elif is_brought(copy):
-            with contextlib.suppress(OSError):  # it has none, or one is here already
-                os.rename(os.path.join(copy, notebook.PLACE), beside.folder(office.path, notebook.PLACE))
-        try:
-            move_in(office, path)
-        except OSError:
-            if kept:
-                kept_if_other(office, kept)
-            raise
-    return kept
+def title_of_back(copy: str) -> str:
+    """Before what a copy of now is made where this one is put in its place."""
+    when, what = when_and_what(copy)
+    return f"{BACK}{what if is_brought(copy) else when}"
 
 
 def losses(office: Office, copy: str) -> list[Said]:
