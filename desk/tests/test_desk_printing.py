@@ -294,6 +294,7 @@ class TestTheDay(DeskSchool):
         self.browser.post(page + "/absent", page + "/halls/PC1", absent=["0001051"], was=["0001051", "0001119"])
         text = self.browser.get(page + "/halls/PC1")
         self.assertEqual(re.findall(r'value="(\d{7})"[^>]*checked', text), ["0001051"])
+        self.assertIn("<button>Note who was absent</button>", text)
         self.assertEqual(self.browser.ask("GET", page + "/attendance.csv")[1], self.office("absent", "MON-AM"))
         self.assertIn('"0001051","CS-1","absent"', self.office("absent", "MON-AM"))
         for wrong in ("x1051", "9999999", "0001051 x", ""):
