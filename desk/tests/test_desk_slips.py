@@ -50,7 +50,8 @@ class TestTuesday(DeskSchool):
         page, _ = self.browser.post("/propose/files", where, upload=where.rpartition("/")[2])
         self.assertIn("Is this a new season? It wants a new office in a new folder", self.words(page))
         self.assertIn("/handbook#backup-and-moving-house", self.browser.get(page))
-
+        self.browser.post(page + "/do", page)
+        self.assertIn("Mon 5 Jun 2028", self.words("/candidates/1000"))  # a day of this year has none behind it
 
 
 if __name__ == "__main__":
