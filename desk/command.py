@@ -125,8 +125,8 @@ def tell(kind: type[BaseException], fault: BaseException, place: TracebackType |
     """Prints what ends a command: a line where a person can mend it, a list of calls where the desk is wrong."""
     import sqlite3
     if isinstance(fault, BrokenPipeError):
-        drop_output()
-    elif isinstance(fault, Trouble):
+        return  # who reads has seen enough, as `head` has
+    if isinstance(fault, Trouble):
         warn(fault)
     elif isinstance(fault, OSError):
         who = f" to the user {beside.user_name(os.getuid())}" if isinstance(fault, PermissionError) else ""
@@ -137,11 +137,6 @@ def tell(kind: type[BaseException], fault: BaseException, place: TracebackType |
         warn(f"{office().path}: {fault}")
     else:
         sys.__excepthook__(kind, fault, place)
-
-
-def drop_output() -> None:
-    """Nobody reads what is left of the output."""
-    os.dup2(os.open(os.devnull, os.O_WRONLY), sys.stdout.fileno())
 
 
 def warn(message: object) -> None:
@@ -155,9 +150,13 @@ def complain(lines: Iterable[str]) -> None:
 
 def say(text: str) -> None:
     """Prints a text and makes sure that it went out whole."""
-    with beside.naming("the output"):
-        sys.stdout.write(text)
-        sys.stdout.flush()
+    try:
+        with beside.naming("the output"):
+            sys.stdout.write(text)
+            sys.stdout.flush()
+    except OSError:
+        os.dup2(os.open(os.devnull, os.O_WRONLY), sys.stdout.fileno())  # what is left of it goes nowhere
+        raise
 
 
 def say_lines(lines: Iterable[str], is_private: bool = False) -> None:
@@ -210,7 +209,7 @@ def tell_consequences(copy: str | None) -> None:
 
 def office() -> Office:
     """The office that is meant."""
-    return Office(os.environ.get("OFFICE") or "office.db", program(), today, user(), warn, now)
+    return Office(os.environ.get("OFFICE") or "office.db", program(), lambda: now().date(), user(), warn, now)
 
 
 def existing_office() -> Office:
@@ -246,10 +245,6 @@ def program() -> str:
     places = [named] if named else [os.path.join(DESK, "examoffice"),
                                     os.path.join(DESK, "../crates/examoffice/out/examoffice"), "examoffice"]
     return next(filter(None, map(shutil.which, places)), places[0])
-
-
-def today() -> datetime.date:
-    return now().date()
 
 
 def now() -> datetime.datetime:

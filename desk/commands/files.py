@@ -49,7 +49,7 @@ def read_source(office: Office, given: Namespace) -> Job:
         reading.read_book(opening.open_book(given.source, given.encoding), job, command.progress)
     if getattr(given, "codes", False):
         from exam_desk import coding
-        coding.add_codes(office, job)
+        coding.add_codes(job)
     command.progress("")
     command.say_lines(line.whole() for line in (job.lines if given.all else tables.together(job.lines)))
     return job

@@ -147,7 +147,7 @@ def appeals_open(parser: command.Parser) -> None:
     from exam_desk import appeals
     given = command.given(parser, "session*")
     with command.rows() as rows:
-        lines = appeals.open_lines(rows, command.today().isoformat(), given.session)
+        lines = appeals.open_lines(rows, command.now().date().isoformat(), given.session)
     command.say_lines(lines or ["no appeal is open"], is_private=True)
 
 

@@ -282,7 +282,6 @@ def put(text: str) -> bool:
     try:
         command.say(text)
     except OSError:
-        command.drop_output()
         return False
     return True
 

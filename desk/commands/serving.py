@@ -83,7 +83,8 @@ def keep(parser: command.Parser) -> bool:
         keeping.stop(office)
         print("ended")
         return False
-    status = (keeping.status(office) if given.what == "status" else
-              keeping.start(office, [sys.executable, command.OFFICE, "keep", "run", given.place, f"--days={given.days}"]))
-    print(status.sentence)
-    return not status.serves
+    serves, said = (keeping.status(office) if given.what == "status" else
+                    keeping.start(office, [sys.executable, command.OFFICE, "keep", "run", given.place,
+                                           f"--days={given.days}"]))
+    print(said)
+    return not serves

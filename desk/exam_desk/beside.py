@@ -20,6 +20,7 @@ AS_FOLDER = os.O_RDONLY | os.O_DIRECTORY
 SAFELY = os.O_NOFOLLOW | os.O_NONBLOCK  # a pipe in the place of a file keeps nobody waiting
 FULL = {errno.ENOSPC, errno.EDQUOT}  # a disk, or what a user may have of it
 NO_FILE = "is no file, but a folder, a pipe or a device"
+LAST_BYTES = 1 << 16  # of a file that grows, which are looked at
 DAYS = "days"  # the folder with the copies of days, which can go
 LINKS = {errno.ELOOP: "is a link, which is not followed", errno.ENOTDIR: "is no folder, or a link to one"}
 
@@ -95,6 +96,14 @@ def open_file(office: str, *names: str, flags: int) -> int:
         return opened(folder(office), flags)
     with open_folder(office, *names[:-1]) as outer:
         return opened(folder(office, *names), flags, outer)
+
+
+def text_of(office: str, name: str) -> str:
+    """What a file in the folder holds, as far as LAST_BYTES go; nothing where it cannot be read, such as a link."""
+    with contextlib.suppress(OSError, Strange), open(open_file(office, name, flags=os.O_RDONLY), "rb") as file:
+        file.seek(max(os.fstat(file.fileno()).st_size - LAST_BYTES, 0))
+        return file.read().decode("utf-8", "replace")
+    return ""
 
 
 def opened(path: str, flags: int, outer: int | None = None) -> int:

@@ -166,9 +166,10 @@ def carry_out(office: Office, steps: Sequence[Step], made_from: str | None = Non
 
 
 @contextlib.contextmanager
-def copied(office: Office, title: str) -> Iterator[str]:
-    """A copy from before a change. Where a fault or a signal ends the change before it has done anything, it goes."""
-    copy = copies.keep_copy(office, title)
+def copied(office: Office, title: str, used: str = "") -> Iterator[str]:
+    """A copy from before a change, which may use another. Where a fault or a signal ends the change before it has done
+    anything, the new one goes."""
+    copy = copies.keep_copy(office, title, used)
     try:
         yield copy
     except BaseException as fault:
@@ -258,8 +259,8 @@ def carried_all(office: Office, lock: FileIO, title: str, steps: Sequence[Step],
 def go_back(office: Office, words: Sequence[str], copy: str, may_go: Callable[[list[Said]], bool],
             made_from: str | None = None) -> Back:
     """Puts a copy in the place of the office, in one turn, where `may_go` agrees to the appeals and decisions that this
-    takes away. Both are on the disk at each moment. Where no office was, a backup brings its notebook. Raises as `turn`,
-    and `Trouble` where the copy is gone or no good office."""
+    takes away. Both are on the disk at each moment. Where no office was, a backup brings its notebook. Raises as
+    `turn`, and `Trouble` where the copy is gone or no good office."""
     with contextlib.ExitStack() as stack:
         with unchanged(office):
             stack.enter_context(turn(office, " ".join(words), made_from))
@@ -273,7 +274,7 @@ def go_back(office: Office, words: Sequence[str], copy: str, may_go: Callable[[l
         with unchanged(office):
             path, kept = stack.enter_context(copies.ready(office, copy)), ""
             if os.path.exists(os.path.realpath(office.path)):
-                kept = stack.enter_context(copied(office, copies.title_of_back(copy)))
+                kept = stack.enter_context(copied(office, copies.title_of_back(copy), copy))
             elif copies.is_brought(copy):
                 with contextlib.suppress(OSError):  # it has none, or one is here already
                     os.rename(os.path.join(copy, notebook.PLACE), beside.folder(office.path, notebook.PLACE))

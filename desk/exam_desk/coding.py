@@ -2,12 +2,11 @@
 imports of what was read from a workbook, or from a folder of import files."""
 from __future__ import annotations
 
-import os
 import secrets
 from collections.abc import Mapping
 from typing import TYPE_CHECKING
 
-from exam_desk import facts, files, lists, mistakes, snapshot
+from exam_desk import files, lists, mistakes, snapshot
 from exam_desk.changing import Step
 from exam_desk.office import Office, NoCandidate, Trouble
 
@@ -15,14 +14,6 @@ if TYPE_CHECKING:
     from exam_desk.workbook.tables import Job
 
 LETTERS, DIGITS, LENGTH = "BCDFGHJKMNPQRSTVWXYZ", "23456789", 10
-
-
-def in_office(office: Office) -> dict[str, str]:
-    """The access codes of the office, by number; none where there is no office yet."""
-    if not os.path.exists(office.path):
-        return {}
-    with snapshot.rows(office) as connection:
-        return facts.access_codes(connection)
 
 
 def read(text: bytes, path: str) -> list[list[str]]:
@@ -84,14 +75,16 @@ def other_rows(office: Office, numbers: list[str], name: str | None = None) -> t
     return Step(("import", "candidates", title), files.file_of("candidates", changed)), state
 
 
-def add_codes(office: Office, job: Job) -> None:
-    """Gives each candidate who was read without a code one: that of the office for the number, else a new one."""
-    records = job.records.get("candidates", [])
-    rows, made = filled([record.fields for record in records], in_office(office))
-    job.records["candidates"] = [record._replace(fields=row) for record, row in zip(records, rows)]
+def add_codes(job: Job) -> None:
+    """Gives each candidate who was read without a code a new one, where no line is a mistake."""
     job.lines = [line for line in job.lines if line.what != mistakes.NO_CODE]
-    if made and not job.count("mistake"):
-        job.change(f"{lists.count(made, 'access code')} made")
+    if not job.count("mistake"):
+        records = job.records.get("candidates", [])
+        known = {number.decode(): code.decode() for number, code in job.known.codes.items() if code}
+        rows, made = filled([record.fields for record in records], known)
+        job.records["candidates"] = [record._replace(fields=row) for record, row in zip(records, rows)]
+        if made:
+            job.change(f"{lists.count(made, 'access code')} made")
 
 
 def steps_of(job: Job) -> list[Step]:

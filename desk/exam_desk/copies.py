@@ -31,11 +31,11 @@ CANDIDATES = ("SELECT (SELECT count(*) FROM now.candidate), (SELECT count(*) FRO
               "ON old.number = new.number AND (old.name = new.name OR old.code = new.code))")
 
 
-def keep_copy(office: Office, command: str) -> str:
+def keep_copy(office: Office, command: str, used: str = "") -> str:
     """Copies the office from before a command; gives the path. Call it with the office alone. The running number is one
-    more than the highest, so that the order does not depend on the clock."""
+    more than the highest, so that the order does not depend on the clock. A copy that the command uses stays."""
     copy = make(office, PLACE, named(max(map(number_of, listed(office)), default=0) + 1, command), command)
-    prune(office)
+    prune(office, used)
     return copy
 
 
@@ -141,13 +141,14 @@ def chosen(office: Office, number: int) -> str:
     return found[number - 1]
 
 
-def prune(office: Office) -> None:
-    """Removes the oldest copies: what is beyond MOST_COPIES, or beyond MOST_BYTES in all; the last one stays."""
+def prune(office: Office, used: str) -> None:
+    """Removes the oldest copies: what is beyond MOST_COPIES, or beyond MOST_BYTES in all; the last one stays, and one
+    that is used."""
     room = MOST_BYTES
     for place, copy in enumerate(listed(office)):
         with contextlib.suppress(OSError):
             room -= sum(entry.stat().st_size for entry in os.scandir(copy))
-        if place > 0 and (place >= MOST_COPIES or room < 0):
+        if place > 0 and copy != used and (place >= MOST_COPIES or room < 0):
             drop(copy)
 
 

@@ -23,7 +23,6 @@ import sys
 import time
 from collections.abc import Iterator, Sequence
 from io import FileIO
-from typing import NamedTuple
 
 from exam_desk import asking, beside, copies, hold, refusals, running, turns
 from exam_desk.office import Office, Trouble
@@ -41,12 +40,6 @@ DAY_PAUSE = 0.5  # seconds from one look at the date to the next
 START_SECONDS, STOP_SECONDS, QUESTION_SECONDS = 60, 20, 5  # that who begins `keep`, ends it or asks it waits at most
 QUESTION = b"GET / HTTP/1.0\r\n\r\n"  # `serve` answers it by 404
 RUNS = "`keep` serves this office already; `office keep status` says where"
-
-
-class Status(NamedTuple):
-    """Whether `keep` serves, and what is to be said of it."""
-    serves: bool
-    sentence: str
 
 
 def say(text: object) -> None:
@@ -224,7 +217,7 @@ def run(office: Office, place: str, days: int) -> None:
         asyncio.run(Keep(office, place, lock, days).run())
 
 
-def start(office: Office, line: Sequence[str]) -> Status:
+def start(office: Office, line: Sequence[str]) -> tuple[bool, str]:
     """Runs `keep` in the background by this line, and waits until it serves. Raises `Trouble` where one runs."""
     if turns.keep_state(office) is not None:
         raise Trouble(RUNS)
@@ -253,30 +246,26 @@ def stop(office: Office) -> None:
         time.sleep(0.02)
 
 
-def ending(office: Office) -> str:
-    """How the last `keep` ended, as far as its journal says it, or what begins another."""
-    journal = beside.folder(office.path, JOURNAL)
-    with contextlib.suppress(OSError, IndexError), open(journal, encoding="utf-8", errors="replace") as file:
-        return f"the last line of {journal}: {plain(file.read().splitlines()[-1]).removeprefix('office: ')}"
-    return "`office keep start` begins it, or as root `systemctl start examoffice` the service"
-
-
-def status(office: Office) -> Status:
-    """What `keep` does; it serves only where `serve` answers through it in time. Raises `Trouble` where none runs."""
+def status(office: Office) -> tuple[bool, str]:
+    """Whether `keep` serves, which it does only where `serve` answers through it in time; and what is to be said of it.
+    Raises `Trouble`, with the last line of its journal, where none runs."""
     state = turns.keep_state(office)
     if state is None:
-        raise Trouble(f"`keep` does not run; {ending(office)}")
+        lines = beside.text_of(office.path, JOURNAL).splitlines()
+        said = (f"the last line of {beside.folder(office.path, JOURNAL)}: {plain(lines[-1]).removeprefix('office: ')}"
+                if lines else "`office keep start` begins it, or as root `systemctl start examoffice` the service")
+        raise Trouble(f"`keep` does not run; {said}")
     process, fault = state["pid"], plain(state.get("state", "aside"))
     if process <= 0:
-        return Status(False, "`keep` runs in another container or on another machine: ask there")
+        return False, "`keep` runs in another container or on another machine: ask there"
     if fault == "serving":
         place, answered = state["place"], 0
         with contextlib.suppress(OSError):
             answered = asking.status_of(asking.answer(asking.Server(process, place), QUESTION, QUESTION_SECONDS))
         if answered == 404:
-            return Status(True, f"serving {plain(asking.shown(place))}, for {state['day']}, process {process}")
+            return True, f"serving {plain(asking.shown(place))}, for {state['day']}, process {process}"
         fault = f"no answer within {QUESTION_SECONDS} seconds, or more clients than it takes at once"
     means = map(str.strip, refusals.explained(office, ["serve"], fault.rpartition(": ")[2]))
     fault = "it begins, or a command has the office" if fault == "aside" else fault
     why = "; ".join([fault, *means])
-    return Status(False, f"process {process} does not serve now: {why}; it tries again by itself")
+    return False, f"process {process} does not serve now: {why}; it tries again by itself"

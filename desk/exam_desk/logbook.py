@@ -15,10 +15,9 @@ from exam_desk.office import Office
 from exam_desk.words import plain
 
 NAME = "log"
-PUBLIC = {"decide": 4, "lodge": -1}  # up to which word a command has no reason, which is private
+WITH_REASON = {"decide": 4, "lodge": 6}  # words at most, behind which a reason stands, which is private
 BESIDE_OTHERS = ["lodge"]  # it goes the candidates' way, without the office for itself
 BEGINS, STEP = "begins", "step"
-LAST_BYTES = 1 << 16  # of the log, in which the last change is looked for
 
 
 @dataclass
@@ -38,8 +37,10 @@ class Unfinished:
 
 
 def shown(words: Sequence[str]) -> list[str]:
-    """The words of a command as the log and the copies have them: without a reason, also one of several words."""
-    return [*words[:PUBLIC.get(words[0])]]
+    """The words of a command as the log and the copies have them: without a reason, also where quotes round it lack."""
+    if words[0] not in WITH_REASON or len(words) == 1:
+        return list(words)
+    return [word for word in words[:-1] if word != "--"][:WITH_REASON[words[0]]]
 
 
 def write(office: Office, words: Sequence[str], status: int | str, answer: str) -> None:
@@ -95,9 +96,6 @@ def broken_off(office: Office) -> Unfinished | None:
 
 def last_lines(office: Office) -> Iterator[list[str]]:
     """The columns of the last lines of the log; none where it cannot be read."""
-    with contextlib.suppress(OSError, beside.Strange):
-        with open(beside.open_file(office.path, NAME, flags=os.O_RDONLY), "rb") as file:
-            file.seek(max(os.fstat(file.fileno()).st_size - LAST_BYTES, 0))
-            for line in file.read().decode("utf-8", "replace").split("\n"):
-                if len(columns := line.split("\t")) == 5:
-                    yield columns
+    for line in beside.text_of(office.path, NAME).split("\n"):
+        if len(columns := line.split("\t")) == 5:
+            yield columns

@@ -71,7 +71,8 @@ def explained(office: Office, words: Sequence[str], complaint: str, data: bytes 
     sentence = SENTENCES.get(number or 0) or OTHER.get(answer)
     lines = [sentence] if sentence else []
     if number in MAYBE_DONE:
-        lines += [*(f"{each} has it" for each in filter(None, [holder(office)]) if number == 23), WHOLE_OR_NOT]
+        lines += [f"{each} has it" for each in filter(None, [holder(office)]) if number == 23]
+        lines += [WHOLE_OR_NOT] if words[0] != "serve" else []
     elif number == 24 and not os.path.exists(office.path):
         lines = [str(NoOffice(office.path))]
     elif answer == "file fault" and words[0] == "import":
@@ -113,6 +114,7 @@ def holder(office: Office) -> str:
 
 
 def patience(office: Office) -> int:
-    """For how many seconds waiting may help: another command has the file, and no `serve`; or none is to be seen."""
+    """For how many seconds waiting may help: another command has the file, and no `serve`. Where none is to be seen it
+    may have ended just now; more often the file itself is wrong, and stays so."""
     has_it = holder(office)
-    return 0 if " serve " in has_it else turns.PATIENCE if has_it else turns.SILENCE
+    return 0 if " serve " in has_it else turns.PATIENCE if has_it else 1

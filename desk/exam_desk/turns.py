@@ -21,7 +21,7 @@ import struct
 import time
 from collections.abc import Callable, Iterator, Sequence
 from io import FileIO
-from typing import TypedDict, cast
+from typing import Any
 
 from exam_desk import beside
 from exam_desk.office import Office, Trouble
@@ -31,15 +31,7 @@ SILENCE = 5  # seconds after which it says behind whom it waits
 PAUSE = 0.01  # seconds from one try to the next
 NOTE_BYTES = 1024
 FLOCK = "hhqqi"  # struct flock of fcntl(2): type, whence, start, length, process
-
-
-class Said(TypedDict, total=False):
-    """What `keep` says of itself; its process is always there."""
-    pid: int
-    place: str
-    state: str
-    serve: int  # the process of `serve`
-    day: str
+Said = dict[str, Any]  # what `keep` says of itself: its pid always; place, state, and day and pid of its `serve`
 
 
 def lock_file(office: Office, name: str) -> FileIO:
@@ -68,13 +60,6 @@ def note(file: FileIO, text: str) -> None:
         os.pwrite(file.fileno(), text.encode("utf-8", "surrogateescape")[:NOTE_BYTES].ljust(NOTE_BYTES), 0)
 
 
-def text_of(office: Office, name: str) -> str:
-    with contextlib.suppress(OSError, beside.Strange):
-        with open(beside.open_file(office.path, name, flags=os.O_RDONLY), encoding="utf-8", errors="replace") as file:
-            return file.read(NOTE_BYTES).strip()
-    return ""
-
-
 @contextlib.contextmanager
 def alone(office: Office, words: Sequence[str]) -> Iterator[FileIO]:
     """The office for this process alone, and office.lock: waits up to PATIENCE seconds for others, then raises
@@ -94,7 +79,7 @@ def alone(office: Office, words: Sequence[str]) -> Iterator[FileIO]:
     with lock_file(office, "turn.lock") as turn, lock_file(office, "want.lock") as want:
         while not (is_free(turn) and try_lock(want) and is_free(turn)):
             fcntl.flock(want, fcntl.LOCK_UN)
-            pause(lambda: f"another command ({text_of(office, 'want.lock')})" if is_free(turn) else
+            pause(lambda: f"another command ({beside.text_of(office.path, 'want.lock').strip()})" if is_free(turn) else
                   "`keep` (it answers candidates who wait)")
         note(want, f"process {os.getpid()}, {' '.join(words)}")
         ask_keep_aside(office)
@@ -129,7 +114,7 @@ def said_by(process: int, text: bytes) -> Said:
     with contextlib.suppress(ValueError, RecursionError):
         said = json.loads(text)
         if isinstance(said, dict) and said.get("pid") == process:
-            return cast(Said, {"place": str(said.get("port")), **said})  # version 1.0.0 says a port
+            return {"place": str(said.get("port")), **said}  # version 1.0.0 says a port
     return {"pid": process}
 
 

@@ -124,7 +124,7 @@ def another_link(office: Office) -> str:
 
 
 def link_of_running(office: Office) -> str:
-    place = turns.text_of(office, LOCK).split()
+    place = beside.text_of(office.path, LOCK).split()
     if len(place) != 2:
         raise Trouble("a desk of this office begins or ends just now; try again")
     return guard.new_link(office.path, *place)

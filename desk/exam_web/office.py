@@ -152,8 +152,8 @@ def keep() -> Response:
         cure = text("a whole number from {low} to {high}", low=LOWEST_PORT, high=HIGHEST_PORT)
         raise Wrong(("office.page", {}), port=cure)
     with at_field(("office.page", {}), "port"):
-        status = keeping.start(office(), [sys.executable, COMMAND, "keep", "run", str(port)])
-    return lead("office.page", said(status.sentence), "good" if status.serves else "bad")
+        serves, sentence = keeping.start(office(), [sys.executable, COMMAND, "keep", "run", str(port)])
+    return lead("office.page", said(sentence), "good" if serves else "bad")
 
 
 @pages.post("/office/backup")

@@ -6,6 +6,7 @@ import json
 import os
 import pathlib
 import shutil
+import signal
 import socket
 import subprocess
 import sys
@@ -17,6 +18,8 @@ DESK = pathlib.Path(__file__).resolve().parent.parent
 TOP = DESK.parent
 sys.path.insert(0, str(DESK))
 from exam_desk.office import Office  # noqa: E402
+
+signal.signal(signal.SIGINT, signal.default_int_handler)  # what a shell begins in the background ignores it, and its children
 
 KINDS = ["sessions", "papers", "halls", "openings", "candidates", "arrangements", "entries"]
 TODAY = "2027-05-01"

@@ -155,6 +155,7 @@ class TestRefused(Backups):
                               (backups.BROKEN, whole[:-40]), ("it has a password", bytes(locked)),
                               (backups.BROKEN, bytes(lying)),
                               *((backups.BROKEN, each) for each in misleading({"office.db": self.first})),
+                              (backups.BROKEN, zipped({"a": bytes(99)}, zipfile.ZIP_LZMA).replace(b"\xdf\xff\xff", b"xxx")),
                               (backups.BROKEN, whole[:len(whole) // 2] + b"x" * 9 + whole[len(whole) // 2 + 9:]),
                               (r"this copy is no good office \(bad office", self.zip(**{"office.db": self.bytes_of("other.db")})),
                               (r"this copy is no good office \(bad seat", zipped({

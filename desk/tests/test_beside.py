@@ -148,6 +148,13 @@ class Copies(Beside):
             made = [copies.keep_copy(self.value, "withdraw") for _ in range(2)]
             self.assertEqual(copies.listed(self.value), made[1:])
 
+    def test_the_one_that_is_put_back_stays_until_the_next_change(self):
+        with mock.patch("exam_desk.copies.MOST_COPIES", 1):
+            first = copies.keep_copy(self.value, "withdraw")
+            back = changing.go_back(self.value, ["back", "1"], first, lambda lines: True)
+            self.assertEqual([back.copy, first], copies.listed(self.value))
+            self.assertEqual([copies.keep_copy(self.value, "reinstate")], copies.listed(self.value))
+
     def test_a_copy_of_1_0_0_is_put_back(self):
         before = self.office("export", "MON-AM")
         self.office("withdraw", "0001000", "MA-1")
@@ -322,12 +329,13 @@ class Log(Beside):
 
     def test_reasons_stay_out(self):
         self.change(APPEAL, "HA1")
-        self.office("decide", "0001051", "HA1", "refused", "unwell since May")
+        self.run_office("decide", "0001051", "HA1", "refused", "unwell", "since", "May")
+        self.office("decide", "--", "0001051", "HA1", "refused", "unwell since May")
         names = "\n".join([*os.listdir(os.path.join(self.desk, "copies")),
                            *(copies.when_and_what(copy)[1] for copy in copies.listed(self.value))])
         texts = b"".join(self.bytes_of(os.path.join(self.desk, name)) for name in ("log", "want.lock"))
         self.assertNotIn("unwell", names + texts.decode())
-        self.assertEqual(self.log()[1][0], "decide 0001051 HA1 refused")
+        self.assertEqual({line[0] for line in self.log()}, {"decide 0001051 HA1 refused"})
 
 
     def test_what_cannot_be_said_in_the_log_is_said_at_once(self):

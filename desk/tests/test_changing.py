@@ -554,7 +554,9 @@ class Taking(Changing):
         self.write("facts/candidates.csv", text)
         self.assertIn("1 candidate without an access code: nothing is changed; give --codes",
                       self.run_office("take", facts, "--yes").stderr)
-        self.assertIn("done; ", self.office("take", facts, "--yes", "--codes"))
+        said = self.office("take", facts, "--yes", "--codes")
+        self.assertIn("done; ", said)
+        self.assertNotIn("has no access code", said)
         self.assertRegex(self.office("look", "0009002", "--codes"), r"\A0009002 Ann, access code [B-Z][B-Z2-9]{9}\n")
         self.assertIn(f"access code {sample.CODE}\n", self.office("look", sample.NUMBER, "--codes"))
 

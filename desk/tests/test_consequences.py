@@ -130,6 +130,17 @@ class Told(sample.SampleSchool):
         has_desk = self.told("withdraw", "0001051", "PH-1")
         self.assertNotIn("without a desk", "".join(has_desk))
 
+    def test_who_has_no_desk_in_several_sessions_is_one(self):
+        """GYM has one desk in each session: of its candidates the lowest numbers stay, so the others are the same people."""
+        codes = ["MON-AM", "MON-PM", "TUE-AM"]
+        rows = "".join(f"{code},GYM,1,18:00,no\n" for code in codes)
+        lines = self.told("import", "openings", self.write("o.csv", f"session,hall,desks,until,reserved\n{rows}"))
+        lost = [row.split(",")[1] for code in codes for row in self.office("export", code).split("\n")
+                if row.endswith(",-,-")]
+        [line] = [line for line in lines if " without a desk" in line]
+        self.assertLess(len(set(lost)), len(lost))
+        self.assertTrue(line.startswith(f"{len(set(lost))} without a desk ({len(lost)} sittings): "), line)
+
     def test_a_late_entry_makes_a_candidate_miss_a_paper(self):
         """0001000 sits MA-1; LAT comes first by its code."""
         lines = self.told("import", "entries", self.write("e.csv", "number,paper\n0001000,LAT\n"))

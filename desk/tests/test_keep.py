@@ -13,7 +13,7 @@ import unittest
 from unittest import mock
 
 import sample
-from exam_desk import keeping, turns
+from exam_desk import beside, keeping, turns
 from exam_desk.office import Trouble
 
 NUMBER = sample.NUMBER
@@ -233,7 +233,7 @@ class NewDay(sample.SampleSchool):
         for day in (1, 2, 3, 2):
             today.return_value = datetime.date(2027, 5, day)
             async with asyncio.timeout(sample.PATIENCE):
-                while f'"day": "2027-05-0{day}"' not in turns.text_of(office, "keep.lock"):
+                while f'"day": "2027-05-0{day}"' not in beside.text_of(office.path, "keep.lock"):
                     await asyncio.sleep(0.02)
         keep.end()
         await served

@@ -119,7 +119,9 @@ class Words(sample.SampleSchool):
     def test_a_file_that_others_can_read(self):
         """The shell makes the file: a note says that it holds what is private, unless a folder keeps others out."""
         is_open = all(above.stat().st_mode & 0o011 for above in pathlib.Path(self.folder).parents)
+        self.office("printed", "MON-AM")
         for words, mode, folder, is_said in (
+                (["printed", "MON-AM", "--look"], 0o604, 0o755, True),  # needs and extra time, before and now
                 (["slips", "--codes"], 0o644, 0o755, True), (["doors", "MON-AM"], 0o640, 0o755, True),
                 (["look", "1051"], 0o600, 0o755, False), (["look", "1051"], 0o644, 0o700, False),
                 (["look", "1051"], 0o604, 0o755, True), (["poster", "MON-AM"], 0o644, 0o755, False)):
@@ -353,6 +355,7 @@ class Causes(sample.SampleSchool):
         self.assertEqual(lines[:2], ["refused 23", f"  {refusals.SENTENCES[23]}"])
         self.assertEqual(lines[-2:], ["  a command is there whole or not at all: look, or give it again", ""])
         self.assertFalse(os.listdir(os.path.join(self.desk, "copies")))
+        self.assertLessEqual(refusals.patience(self.value), 1)  # seconds: nobody waits long for what stays so
         return lines[2:-2]
 
     def test_a_second_hard_link(self):

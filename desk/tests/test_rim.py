@@ -14,7 +14,7 @@ import unittest
 from unittest import mock
 
 import sample
-from exam_desk import asking, hold, keeping, turns
+from exam_desk import asking, beside, hold, keeping, refusals, turns
 from exam_desk.office import Trouble
 
 NOBODY = 65534
@@ -85,9 +85,11 @@ class Crowded(unittest.TestCase):
     def test_status_says_what_a_refusal_means(self):
         for state, said in (("serve ended with status 1: refused 27",
                              "serve ended with status 1: refused 27; an earlier version of the program made the file; "
-                             "`office migrate` carries it over"), ("aside", "it begins, or a command has the office")):
-            with mock.patch("exam_desk.turns.keep_state", return_value={"pid": 7, "place": "8080", "state": state}):
-                self.assertEqual(keeping.status(None).sentence,
+                             "`office migrate` carries it over"), ("aside", "it begins, or a command has the office"),
+                            ("refused 23", f"refused 23; {refusals.SENTENCES[23]}")):
+            with (mock.patch("exam_desk.turns.keep_state", return_value={"pid": 7, "place": "8080", "state": state}),
+                  mock.patch("exam_desk.refusals.holder", return_value="")):
+                self.assertEqual(keeping.status(None)[1],
                                  f"process 7 does not serve now: {said}; it tries again by itself")
 
 
@@ -152,7 +154,7 @@ class Starting(sample.SampleSchool):
     def test_a_long_fault_is_cut_and_a_cut_text_is_none(self):
         with turns.lock_file(self.value, "keep.lock") as lock:
             keeping.Keep(self.value, "8080", lock).show("\u6f22\"\n" * 1000)
-            self.assertEqual(json.loads(turns.text_of(self.value, "keep.lock"))["place"], "8080")
+            self.assertEqual(json.loads(beside.text_of(self.path, "keep.lock"))["place"], "8080")
         for said in (b'{"pid": 7, "place": "8080", "state": "serve ended: \xc3', b"[1, 2]", b"[" * 1000, b"\xff\x00", b"7"):
             self.assertEqual(turns.said_by(7, said), {"pid": 7})
         said = b'{"pid": 7, "port": 8080, "state": "serving"}'  # by `keep` of version 1.0.0, which an upgrade leaves
@@ -174,11 +176,14 @@ class Closed(sample.SampleSchool):
         place = os.path.join(os.path.realpath(self.desk), "notebook", "school.json.new")
         self.assertEqual((done.returncode, done.stderr), (1, f"office: {place}: File too large\n"))
 
-    def test_a_page_that_finds_no_room(self):
-        with open("/dev/full", "w", encoding="utf-8") as full:
-            done = subprocess.run([sample.DESK / "office", "doors", "MON-AM"], env=self.environment, stdout=full,
-                                  stderr=subprocess.PIPE, encoding="utf-8", check=False)
-        self.assertEqual((done.returncode, done.stderr), (1, "office: the output: No space left on device\n"))
+    def test_an_output_that_finds_no_room(self):
+        """A page, and what is so short that it goes out with the end of the command."""
+        self.environment.pop("PYTHONUNBUFFERED", None)
+        for words in (["doors", "MON-AM"], ["back"], ["look", "--help"], ["check-files", sample.TOP / "examples"], []):
+            with open("/dev/full", "w", encoding="utf-8") as full:
+                done = subprocess.run([sample.DESK / "office", *words], env=self.environment, stdout=full,
+                                      stderr=subprocess.PIPE, encoding="utf-8", check=False)
+            self.assertEqual((done.returncode, done.stderr), (1, "office: the output: No space left on device\n"), words)
 
 
 class Strangers(sample.SampleSchool):
@@ -203,6 +208,10 @@ class Strangers(sample.SampleSchool):
             os.remove(os.path.join(self.desk, name))
         with open(victim, encoding="utf-8") as file:
             self.assertEqual(file.read(), "a\n" * 1000)
+        for make in (lambda journal: os.symlink(victim, journal), os.mkfifo):  # `status` reads neither of them
+            make(journal := os.path.join(self.desk, "keep.log"))
+            self.assertIn("does not run; `office keep start` begins it", self.refused("keep", "status"))
+            os.remove(journal)
 
     @unittest.skipUnless(os.geteuid() == 0, "a folder of another user needs root")
     def test_root_and_the_office_of_another(self):
@@ -265,7 +274,7 @@ class Turns(sample.SampleSchool):
                 self.assertEqual(asked.call_count, state is not None)
 
     def test_a_lock_that_is_not_there_is_free(self):
-        self.assertEqual((turns.is_taken(self.value, "want.lock"), turns.text_of(self.value, "want.lock")), (False, ""))
+        self.assertEqual((turns.is_taken(self.value, "want.lock"), beside.text_of(self.path, "want.lock")), (False, ""))
 
     def test_a_command_lets_candidates_go_first(self):
         """No command begins while `keep` holds the lock for candidates who wait; it says behind whom it waits."""
@@ -312,6 +321,30 @@ class Waiting(sample.KeptSchool):
             sample.until(lambda: turns.is_free(turn))
 
 
+class Answering(sample.SampleSchool):
+    def test_the_turn_is_given_back_with_the_answer(self):
+        with mock.patch("exam_desk.keeping.TURN_SECONDS", 10 * sample.PATIENCE), mock.patch("exam_desk.keeping.say"):
+            asyncio.run(self.is_given_back())
+
+    async def is_given_back(self):
+        """Somebody has want.lock until `keep` has taken the turn for a candidate."""
+        with (turns.lock_file(self.value, "keep.lock") as lock, turns.lock_file(self.value, "turn.lock") as turn,
+              turns.lock_file(self.value, "want.lock") as want):
+            turns.try_lock(want)
+            keep = keeping.Keep(self.value, str(sample.free_port()), lock)
+            served = asyncio.create_task(keep.run())
+            answer = asyncio.create_task(keep.hold.answer(b"GET / HTTP/1.0\r\n\r\n"))
+            async with asyncio.timeout(sample.PATIENCE):
+                while turns.is_free(turn):
+                    await asyncio.sleep(0.02)
+                want.close()
+                self.assertTrue((await answer).endswith(b'{"error":37}'))
+                while not turns.is_free(turn):
+                    await asyncio.sleep(0.02)
+            keep.end()
+            await served
+
+
 class Days(sample.SampleSchool):
     def test_only_days_are_removed(self):
         days = os.path.join(self.desk, "days")
@@ -332,6 +365,8 @@ class Sockets(sample.SampleSchool):
         folder = os.path.join(self.folder, "run")
         with contextlib.suppress(FileExistsError):
             os.mkdir(folder)
+        if os.geteuid() == 0:
+            os.chown(folder, -1, NOBODY)  # the group of a server
         os.chmod(folder, 0o750)
         return folder
 
