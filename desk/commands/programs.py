@@ -133,12 +133,12 @@ class Back(Change):
     is_agreed: bool
 
     def said(self, rehearsal: Rehearsal) -> int:
-        office = rehearsal.office
-        self.tell("would be", copies.losses(office, self.copy), notebook.others_than_in(office, self.copy))
+        self.tell("would be", copies.losses(rehearsal.office, self.copy))
         return 0
 
-    def tell(self, verb: str, taken: list[Said], others: list[str]) -> None:
+    def tell(self, verb: str, taken: list[Said]) -> None:
         """Says what is taken away, and what is left as it is beside the office though the copy has it otherwise."""
+        others = notebook.others_than_in(command.office(), self.copy)
         left = [f"left as they are now, and otherwise in the copy: {', '.join(others)}"] if others else []
         command.say_lines([f"the office {verb} {copies.state_of(self.copy)}",
                            *(f"taken away: {line}" for line in taken), *left])
@@ -147,7 +147,6 @@ class Back(Change):
         """Does nothing where the office changed while the question stood, or appeals and decisions came."""
         office, seen = command.office(), None
         taken = copies.losses(office, self.copy)
-        others = notebook.others_than_in(office, self.copy)  # the oldest copy goes when one of now is kept
         if not self.is_agreed:
             seen = changing.state_of(office)
             when, what = copies.when_and_what(self.copy)
@@ -157,7 +156,7 @@ class Back(Change):
                                 lambda lines: self.is_agreed or lines == taken, seen)
         if not done.is_done:
             raise Stale("other appeals or decisions would be taken away by now, so nothing is changed: give it again")
-        self.tell("is", done.lines, others)
+        self.tell("is", done.lines)
         command.tell_consequences(done.copy)
         return 0
 

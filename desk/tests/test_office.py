@@ -12,12 +12,11 @@ import sys
 import time
 import unittest
 from concurrent.futures import ThreadPoolExecutor
-from contextlib import closing, redirect_stderr, redirect_stdout
+from contextlib import closing, redirect_stderr
 from unittest import mock
 
 import sample
 import command
-from commands import programs
 from exam_desk import copies, refusals, turns
 
 
@@ -501,17 +500,6 @@ class Back(sample.SampleSchool):
         self.assertIn("an earlier version of the program made", self.untold("back", "1", "--yes"))
         self.assertTrue(self.refused("check").startswith("refused 27\n"))
         self.assertEqual(self.office("migrate"), "migrated 2 to 3\n")
-
-    def test_the_oldest_copy(self):
-        """It goes when one of now is kept; its notebook is compared before."""
-        self.office("school", "Hill School")
-        self.office("withdraw", "0001000", "MA-1")
-        [copy] = copies.listed(self.value)
-        with (mock.patch.dict(os.environ, self.environment), mock.patch("exam_desk.copies.MOST_COPIES", 1),
-              redirect_stdout(io.StringIO()) as said, redirect_stderr(io.StringIO())):
-            programs.Back(title="back 1", copy=copy, is_agreed=True)()
-        self.assertRegex(said.getvalue(), r"\Athe office is as it was on .*, before withdraw 0001000 MA-1\n\Z")
-        self.assertFalse(os.path.exists(copy))
 
     def test_a_damaged_office_is_replaced(self):
         before = self.facts()
