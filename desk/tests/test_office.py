@@ -393,6 +393,13 @@ class Causes(sample.SampleSchool):
             process.stdin.close()
             self.assertEqual(done.result(), "withdrawn\n")
 
+    def test_a_check_waits_too(self):
+        began = os.path.join(self.folder, "began")
+        program = self.write("program", f'#!/bin/sh\n[ -e {began} ] || {{ touch {began}; echo refused 23 >&2; exit 1; }}\n'
+                                        f'exec {sample.built_program()} "$@"\n')
+        os.chmod(program, 0o700)
+        self.assertEqual(self.office("check", EXAMOFFICE=program), "good\n")
+
     def test_who_has_the_file_is_named(self):
         with open(self.path, "rb") as file, subprocess.Popen(["sleep", "60"], stdin=file) as process:
             sample.until(lambda: refusals.holder(self.value))

@@ -139,6 +139,14 @@ class There(SecondSitting):
             self.assertEqual([second_sitting.own_code(reading.rows, f"MATHEMATIC-{place}") for place in (2, 3, 4)],
                              ["MATHEMATIC-2", "MATHEMATIC-3", "MATHEMATIC-3"])
 
+    def test_a_code_that_two_papers_may_have_given(self):
+        """Both have 12 letters, of which ten are the same."""
+        self.enter("sessions", "session,date,start\nT,2027-06-20,09:00\nT-2,2027-06-20,10:00\n")
+        self.enter("papers", "paper,title,session,minutes,requires\nABCDEFGHIJKL,Maths,T,60,-\n"
+                             "ABCDEFGHIJKM,Maths,T,60,-\nABCDEFGHIJ-2,Maths,T-2,60,-\n")
+        with Reading(self.value) as reading:
+            self.assertEqual(second_sitting.own_code(reading.rows, "ABCDEFGHIJ-2"), "ABCDEFGHIJ-2")
+
     def test_a_second_candidate_joins(self):
         self.second(*ONE)
         said = self.second("0000002", *ONE[1:])
