@@ -99,7 +99,7 @@ class List(Change):
     def said(self, rehearsal: Rehearsal) -> int:
         statuses = [*map(self.said_of_row, self.rows, rehearsal.answers)]
         put(f"{statuses.count(0)} of {lists.count(len(self.rows), 'row')} would be done\n")
-        return int(statuses.count(0) < len(self.rows))
+        return int(any(statuses))
 
     def __call__(self) -> int:
         statuses: list[int] = []
@@ -115,7 +115,7 @@ class List(Change):
         command.tell_consequences(carried.copy)
         if carried.signal:
             raise carried.signal
-        return int(any(statuses) or done < len(self.rows))
+        return int(any(statuses))
 
     def said_of_row(self, line: int, answered: Answered) -> int:
         """Prints what became of a row; the status."""

@@ -268,6 +268,8 @@ def headlines(met: Groups) -> list[str]:
 def where(kind: str, met: list[Met]) -> str:
     if len(met) <= MOST_NAMED or kind in OF_PLACES or not met[0].session:
         return few([each.who for each in met], MOST_NAMED, "; ")
+    if len({each.person for each in met}) == 1:
+        return met[0].person
     counts = Counter(each.session for each in met)
     return few([f"{count:,} in {session}" for session, count in counts.most_common()], MOST_NAMED)
 

@@ -183,6 +183,9 @@ class Words(sample.SampleSchool):
             self.assertEqual(self.run_office(*words).stderr, "  late.csv line 3: NOTE: number '0001000': this entry is "
                              "withdrawn in the office and stays so until it is reinstated\n")
 
+        path = self.write("halls.csv", "hall,title,features\n" + "GYM,Gymnasium,step-free\n" * 2)
+        self.assertEqual(self.run_office("import", "halls", path).stderr, "")
+
     def test_arrangements_in_whose_place_a_grant_is_in_force(self):
         path = self.write("needs.csv", "number,needs,extra\n0001051,-,50\n")
         for session, outcome in (("MON-AM", "granted"), ("TUE-AM", "standing")):
@@ -391,15 +394,23 @@ class Causes(sample.SampleSchool):
             process.stdin.close()
             self.assertEqual(done.result(), "withdrawn\n")
 
+    def test_a_check_waits_too(self):
+        began = os.path.join(self.folder, "began")
+        program = self.write("program", f'#!/bin/sh\n[ -e {began} ] || {{ touch {began}; echo refused 23 >&2; exit 1; }}\n'
+                                        f'exec {sample.built_program()} "$@"\n')
+        os.chmod(program, 0o700)
+        self.assertEqual(self.office("check", EXAMOFFICE=program), "good\n")
+
     def test_who_has_the_file_is_named(self):
         with open(self.path, "rb") as file, subprocess.Popen(["sleep", "60"], stdin=file) as process:
             sample.until(lambda: refusals.holder(self.value))
             self.assertEqual(refusals.holder(self.value), f"process {process.pid} (sleep 60)")
             self.assertEqual(refusals.patience(self.value), turns.PATIENCE)
             process.kill()
-        line = {"args": ["/srv/serve/program", "60"], "executable": "/bin/sleep"}
+        line = {"args": ["/srv/serve/" + 200 * "x", "60"], "executable": "/bin/sleep"}
         with open(self.path, "rb") as file, subprocess.Popen(**line, stdin=file) as process:
             sample.until(lambda: refusals.holder(self.value))
+            self.assertEqual(refusals.holder(self.value), f"process {process.pid} (/srv/serve/{189 * 'x'})")
             self.assertEqual(refusals.patience(self.value), turns.PATIENCE)  # that is no `serve`
             process.kill()
 
