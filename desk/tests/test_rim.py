@@ -118,6 +118,41 @@ class Hanging(sample.SampleSchool):
         return answer
 
 
+class Door(unittest.TestCase):
+    """What clients get of what `serve` answers, one after the other."""
+    whole, failed = hold.FULL, hold.FULL.replace(b"503", b"500")
+
+    async def given(self, door, *answers):
+        door.open(asking.Server(1, "1"))
+        with mock.patch("exam_desk.asking.answer", side_effect=answers):
+            return await door.answer(b"")
+
+    def test_an_answer_that_is_not_whole_is_asked_for_again(self):
+        for broken in OSError(), b"", self.whole[:-1]:
+            self.assertEqual(asyncio.run(self.given(hold.Hold(), broken, self.whole)), self.whole)
+
+    def test_serve_begins_anew_after_a_500_and_not_again_at_once(self):
+        door = hold.Hold()
+        for is_first in True, False:
+            self.assertEqual(asyncio.run(self.given(door, self.failed)), self.failed)
+            self.assertEqual((door.over.is_set(), door.opened.is_set()), (is_first, not is_first))
+            door.over.clear()
+        self.assertEqual(door.fault, "serve begins anew after an answer 500")
+
+    def test_no_answer_at_all(self):
+        with mock.patch.object(hold, "GAP_SECONDS", 0.1):
+            self.assertRegex(asyncio.run(self.given(hold.Hold(), *[OSError()] * 99)), b"^HTTP/1.1 504 Gateway Timeout\r\n")
+
+    def test_who_sends_nothing_has_less_time_in_a_crowd(self):
+        with mock.patch.object(hold, "CROWD_SECONDS", 0.1), mock.patch.object(hold, "CROWD", 1):
+            self.assertEqual(asyncio.run(asyncio.wait_for(self.silent(), hold.REQUEST_SECONDS / 2)), b"")
+
+    async def silent(self):
+        async with await asyncio.start_server(hold.Hold().take, "127.0.0.1", 0) as server:
+            reader, _ = await asyncio.open_connection(*server.sockets[0].getsockname())
+            return await reader.read()
+
+
 class Hidden(sample.SampleSchool):
     def test_a_serve_whose_port_is_not_seen_is_handed_nothing(self):
         with mock.patch("exam_desk.asking.listens", return_value=False), mock.patch("exam_desk.keeping.say") as say:
