@@ -9,7 +9,7 @@ import contextlib
 import os
 import signal
 import sys
-from typing import TYPE_CHECKING, NamedTuple
+from typing import TYPE_CHECKING, NamedTuple, NoReturn
 
 from exam_desk import beside, typed
 from exam_desk.office import Office, NoOffice, Trouble
@@ -57,9 +57,15 @@ def named(text: str, changes: bool = False) -> Callable[[Run], Run]:
 def parser_of(name: str, words: Sequence[str]) -> Parser:
     """The parser of a command of the desk, which takes these words."""
     import argparse  # here, since the program has its own
+
+    class Plain(argparse.ArgumentParser):
+        """Shows words that it does not take, such as names of files, as a terminal may have them."""
+
+        def error(self, message: str) -> NoReturn:
+            super().error(plain(message))
     sys.argv = [OFFICE, *words]  # where a parser looks for them
-    return argparse.ArgumentParser(prog=f"office {name}", description=COMMANDS[name].text,
-                                   formatter_class=argparse.RawDescriptionHelpFormatter)
+    return Plain(prog=f"office {name}", description=COMMANDS[name].text,
+                 formatter_class=argparse.RawDescriptionHelpFormatter)
 
 
 def given_as_typed(parser: Parser, usage: str) -> list[str]:

@@ -124,20 +124,39 @@ def check_files(parser: command.Parser) -> bool:
     return bool(counts["mistakes"] or counts["codes"])
 
 
-@command.named("""Gives candidates another access code, at random: codes NUMBER ..
+@command.named("""Makes access codes at random: codes NUMBER .., or codes [CANDIDATES.csv] [--new NUMBER ..]
 
-    office codes 0001051        afterwards `office slips --only 0001051 --codes` prints it
+    office codes 0001051                 another code at once; `office slips --only 0001051 --codes` prints it
+    office codes                         reads candidates.csv, writes candidates-with-codes.csv
+    office codes new.csv --output coded.csv
 
-The old code opens nothing then. A code has ten letters and digits, no vowels and nothing that looks alike, and begins
-with a letter; none is made twice. Candidates who have none get theirs by `office take .. --codes`.
+In a file it fills the column `code` where that is empty: with the code that the office has, since slips with it may be
+out, else with a new one. --new names who of the file gets another code all the same. The new file is for its owner
+alone, and never in the place of one that is there: look at it, and import it. An old code opens nothing. A code has ten
+letters and digits, no vowels and nothing that looks alike, and begins with a letter; none is made twice.
 """, changes=True)
 def codes(parser: command.Parser) -> command.Plan:
     from commands import programs
-    from exam_desk import coding
-    parser.add_argument("numbers", metavar="NUMBER", type=typed.number, nargs="+")
-    numbers = parser.parse_args().numbers
-    step = coding.other_rows(command.existing_office(), numbers)
-    return programs.Change(steps=[step], title=" ".join(["codes", *numbers]))
+    from exam_desk import coding, files, lists
+    parser.add_argument("words", metavar="NUMBER|CANDIDATES.csv", type=typed.number, nargs="*")
+    parser.add_argument("--new", metavar="NUMBER", type=typed.number, nargs="+", default=[],
+                        help="who of the file gets another code")
+    parser.add_argument("--output", metavar="FILE", help="the new file, CANDIDATES-with-codes.csv if not given")
+    given = parser.parse_args()
+    if given.words and typed.is_right("number", given.words[0]):
+        step = coding.other_rows(command.existing_office(), given.words)
+        return programs.Change(steps=[step], title=" ".join(["codes", *given.words]))
+    path, *more = given.words or ["candidates.csv"]
+    if more:
+        parser.error("name one file, or numbers alone")
+
+    def write() -> None:
+        rows, made, kept = coding.coded(command.office(), path, given.new)
+        output = given.output or f"{os.path.splitext('candidates' if path in files.INPUTS else path)[0]}-with-codes.csv"
+        files.put(output, files.file_of("candidates", rows))
+        filled = f", {kept} filled from the office" if kept else ""
+        command.say(f"{plain(output)}: {lists.count(made, 'code')} made for {lists.count(len(rows), 'row')}{filled}\n")
+    return write
 
 
 @command.named("""\

@@ -68,6 +68,47 @@ def summary(parser: command.Parser) -> None:
 
 
 @command.named("""\
+Prints the door lists, the attendance sheets and the clash list of a session as text: print-session SESSION | lp
+
+Each sheet is as the program prints it, from one state of the office, and begins a new page. They are made from what the
+program answers for each candidate; a dozen are compared with its own, and where one differs, nothing is printed. The
+heading stands on each page again, and a line that is too long goes on in the next, indented. A hall in which nobody
+sits has no sheet, nor has a paper that nobody sits.
+""")
+def print_session(parser: command.Parser) -> None:
+    from exam_desk.sheets import printing
+    parser.add_argument("--lines", type=int, default=60, help="of a page, 60 if not given")
+    parser.add_argument("--columns", type=int, default=76, help="of a line, 76 if not given")
+    given = command.given(parser, "session")
+    if given.lines < 10 or given.columns < 40:
+        raise Trouble("a page has 10 lines of 40 letters at least")
+    with command.reading() as reading:
+        command.say(printing.text(reading, given.session, given.lines, given.columns, command.progress))
+
+
+@command.named("""\
+Writes one page of a session, with its shortage, clashes and appeals: session-page SESSION >mon-am.html
+
+The page needs no other file, and prints on A4. The shortage is the program's sheet; of those without a desk the page
+says why, hall by hall. All is of one state of the office. If the program refuses the sheet, nothing is written.
+""")
+def session_page(parser: command.Parser) -> bool:
+    from exam_desk.sheets.session_page import Page
+    given = command.given(parser, "session")
+    with command.reading() as reading:
+        page = Page(reading, given.session)
+        command.say_private(page.document())
+    return warned(page.faults)
+
+
+def warned(faults: list[str]) -> bool:
+    """Says in what the printed shortage differs, and whether it does."""
+    for fault in faults:
+        command.warn(f"the printed shortage says otherwise: {fault}")
+    return bool(faults)
+
+
+@command.named("""\
 Prints a slip of paper for each candidate, to be cut out and handed over: slips [SESSION ..] >slips.html
 
     office slips >slips.html                          everybody, all sessions
@@ -79,6 +120,7 @@ browser, by name: number, days, times with the own finish, papers and halls by t
 """)
 def slips(parser: command.Parser) -> None:
     from exam_desk import files
+    from exam_desk.reading import of_few
     from exam_desk.sheets import slips
     parser.add_argument("--only", action="append", default=[], metavar="NUMBER", type=typed.candidate_number,
                         help="this candidate; may be given again")
@@ -89,6 +131,9 @@ def slips(parser: command.Parser) -> None:
         files.read(given.order, command.warn), given.order, *slips.GROUP)
     choice = slips.Choice(given.session, given.only, given.codes, given.desks, groups)
     make = slips.csv_text if given.csv else slips.page
+    if choice.only:
+        command.say_private(of_few(command.office(), lambda reading: make(reading, choice)))
+        return
     with command.reading() as reading:
         command.say_private(make(reading, choice))
 
@@ -159,6 +204,7 @@ Entries with seats, arrangements, and appeals with reasons and answers.
 """)
 def look(parser: command.Parser) -> None:
     from exam_desk import facts
+    from exam_desk.reading import of_few
     from exam_desk.sheets import texts
     parser.add_argument("words", nargs="*", metavar="NAME|NUMBER|SESSION")
     given = command.given(parser, "--codes: with the access code", "--clashes: who has two papers at once")
@@ -168,8 +214,7 @@ def look(parser: command.Parser) -> None:
                      for line in texts.papers_at_once(reading, head["code"])] or ["nobody has two papers at once"]
     elif given.words:
         asked = " ".join(given.words)
-        with command.reading() as reading:
-            lines = texts.asked_lines(reading, asked, given.codes)
+        lines = of_few(command.office(), lambda reading: texts.asked_lines(reading, asked, given.codes))
     else:
         parser.error("name a candidate")
     command.say_lines(lines, is_private=True)
@@ -214,6 +259,4 @@ def why(parser: command.Parser) -> bool:
         helpful = [] if number else remedies.lines(reading.rows, found, printed)
     command.say_private(found.text(number))
     command.say_lines(helpful)
-    for fault in faults:
-        command.warn(f"the printed shortage says otherwise: {fault}")
-    return bool(faults)
+    return warned(faults)

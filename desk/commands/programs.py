@@ -33,6 +33,7 @@ With - as the answer `office` reads a line from standard input: so the answer is
 processes only while the program decides.
 """
 HELP = {"withdraw": LIST_HELP + ALL_HELP, "reinstate": LIST_HELP, "decide": DECIDE_HELP}  # behind that of the program
+GONE = {"check-shortage": "`office why SESSION` adds the printed shortage up"}  # of version 1.0.0, in scripts still
 MOST_NAMED = 20  # of those who lose a desk, move or sit otherwise
 
 
@@ -298,7 +299,8 @@ def usage(name: str, *words: str) -> list[str]:
     """What is wrong with words that the program does not understand, and how its command is given."""
     text = running.help_text(command.office(), name)
     if not text:
-        return ["  `office --help` lists the commands"]
+        gone = [f"  {name} is gone: {GONE[name]}"] if name in GONE else []
+        return [*gone, "  `office --help` lists the commands"]
     wrong = typed.wrong(running.takes(text), [word for word in words if word != "--"])
     more = [f"`office {name} --help` has other forms"] if name in HELP else []
     return [f"  {line}" for line in [*wrong, *[line for line in text.split("\n") if line][1:], *more]]

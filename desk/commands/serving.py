@@ -63,10 +63,13 @@ serves with the new date; where `serve` fails or hangs it begins anew. Each requ
 answer meanwhile. It writes to keep.log in desk-office.db, beside the copies of days.
 """)
 def keep(parser: command.Parser) -> bool:
-    from exam_desk import beside, keeping, turns
+    from exam_desk import beside, copies, keeping, turns
     parser.add_argument("what", choices=["start", "run", "stop", "status"])
     parser.add_argument("place", nargs="?", default=PORT, help="a port, or a folder for the socket")
+    parser.add_argument("--days", type=int, default=copies.MOST_DAYS, help="how many copies of days are kept, else 30")
     given = parser.parse_args()
+    if given.days < 1:
+        parser.error("--days is 1 at least")
     if not (place := keeping.place_of(given.place)):
         parser.error(f"{given.place} is neither a port, 1 to 65535, nor a folder")
     # one whose file is gone may be served still
@@ -74,13 +77,14 @@ def keep(parser: command.Parser) -> bool:
     beside.refuse_stranger(office.path)
     beside.refuse_strange(beside.folder(office.path))
     if given.what == "run":
-        keeping.run(office, place)
+        keeping.run(office, place, given.days)
         return False
     if given.what == "stop":
         keeping.stop(office)
         print("ended")
         return False
     serves, said = (keeping.status(office) if given.what == "status" else
-                    keeping.start(office, [sys.executable, command.OFFICE, "keep", "run", given.place]))
+                    keeping.start(office, [sys.executable, command.OFFICE, "keep", "run", given.place,
+                                           f"--days={given.days}"]))
     print(said)
     return not serves

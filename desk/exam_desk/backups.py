@@ -32,7 +32,7 @@ ALONE = ("its second file, whose name ends in -wal, is not in it, and can hold t
 BROKEN = "it is no zip, or broken or cut short: bring it again, or another backup"
 TOO_LARGE = "it is larger than any office"
 UNREADABLE = (zipfile.BadZipFile, zipfile.LargeZipFile, zlib.error, lzma.LZMAError, RuntimeError, EOFError, OSError,
-              ValueError)
+              ValueError, OverflowError, MemoryError)
 
 
 def fill(office: Office, folder: str) -> None:

@@ -55,6 +55,18 @@ def filled(rows: list[list[str]], known: Mapping[str, str]) -> tuple[list[list[s
     return [[number, name, code or codes[number]] for number, name, code in rows], len(codes) - had
 
 
+def coded(office: Office, path: str, new: list[str]) -> tuple[list[list[str]], int, int]:
+    """The rows of a file, each with a code: its own, else that of the office, else a new one, as those get who are to
+    have a new one; how many are new, and how many are the office's. Raises `Trouble` as `read`."""
+    rows, known = read(files.read(path, office.warn), path), in_office(office)
+    if missing := [number for number in new if number not in {row[0] for row in rows}]:
+        raise Trouble(f"{missing[0]} is not in {path}")
+    empty = [[number, name, "" if number in new else code] for number, name, code in rows]
+    known = {number: code for number, code in known.items() if number not in new}
+    found, made = filled(empty, known)
+    return found, made, sum(not code and number in known for number, _, code in empty)
+
+
 def other_rows(office: Office, numbers: list[str], name: str | None = None) -> Step:
     """The import of candidates with another name and the same code, or without a name with another code. Raises
     `Trouble` where nobody has a number, or it is no name."""

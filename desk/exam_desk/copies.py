@@ -45,13 +45,14 @@ def named(number: int, what: str) -> str:
     return f"{number:06} {datetime.datetime.now():%Y-%m-%d %H.%M.%S.%f} {what}"
 
 
-def keep_day(office: Office, day: datetime.date) -> str | None:
-    """Copies the office for a day that has no copy; gives its path. The last days stay, and none that is to come."""
+def keep_day(office: Office, day: datetime.date, most: int = MOST_DAYS) -> str | None:
+    """Copies the office for a day that has no copy; gives its path. The last days stay, at most so many, and none that
+    is to come."""
     if os.path.lexists(beside.folder(office.path, beside.DAYS, day.isoformat())):
         return None
     copy = make(office, beside.DAYS, day.isoformat())
     found = sorted(folders(office, beside.DAYS, DAY), key=lambda path: (path == copy, path <= copy, path))
-    for old in found[:-MOST_DAYS]:
+    for old in found[:-most]:
         drop(old)
     return copy
 

@@ -54,8 +54,8 @@ def say(text: object) -> None:
 class Keep:
     """Serves through a `Hold` until a signal or `office keep stop` ends it."""
 
-    def __init__(self, office: Office, place: str, lock: FileIO) -> None:
-        self.office, self.place, self.lock = office, place, lock
+    def __init__(self, office: Office, place: str, lock: FileIO, days: int = copies.MOST_DAYS) -> None:
+        self.office, self.place, self.lock, self.days = office, place, lock, days
         self.hold = hold.Hold()
         self.ending = False
         self.day = office.today()  # for which it serves
@@ -151,7 +151,7 @@ class Keep:
     def keep_day(self) -> None:
         """Keeps a copy of the office at each new day, and the last of them."""
         try:
-            if path := copies.keep_day(self.office, self.day):
+            if path := copies.keep_day(self.office, self.day, self.days):
                 say(f"copy of the day in {path}")
         except (OSError, Trouble) as fault:
             say(f"no copy of the day: {fault.strerror if isinstance(fault, OSError) and fault.strerror else fault}")
@@ -208,13 +208,13 @@ def place_of(given: str) -> str:
     return os.path.join(os.path.abspath(given), SOCKET) if os.path.isdir(given) else ""
 
 
-def run(office: Office, place: str) -> None:
+def run(office: Office, place: str, days: int) -> None:
     """Serves until a signal ends it. Raises `Trouble` where another `keep` serves the office."""
     signal.signal(signal.SIGUSR1, signal.SIG_IGN)  # a command that comes before the handler need not step it aside
     with turns.lock_file(office, "keep.lock") as lock:
         if not turns.try_lock(lock, lock=fcntl.lockf):
             raise Trouble(RUNS)
-        asyncio.run(Keep(office, place, lock).run())
+        asyncio.run(Keep(office, place, lock, days).run())
 
 
 def start(office: Office, line: Sequence[str]) -> tuple[bool, str]:
@@ -253,7 +253,7 @@ def status(office: Office) -> tuple[bool, str]:
     if state is None:
         lines = beside.text_of(office.path, JOURNAL).splitlines()
         said = (f"the last line of {beside.folder(office.path, JOURNAL)}: {plain(lines[-1]).removeprefix('office: ')}"
-                if lines else "`office keep start` begins it")
+                if lines else "`office keep start` begins it, or as root `systemctl start examoffice` the service")
         raise Trouble(f"`keep` does not run; {said}")
     process, fault = state["pid"], plain(state.get("state", "aside"))
     if process <= 0:

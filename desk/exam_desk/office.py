@@ -33,12 +33,12 @@ class Office:
 
 
 class Trouble(Exception):
-    """Why something is not done: a sentence for people, and the file, sheet, cell or field that it speaks of, or ''."""
+    """Why something is not done: a sentence for people; the file, sheet, cell or field that it speaks of, or ''; and
+    which of several values it is about, or '', by the name of its column."""
 
-    def __init__(self, sentence: str, place: str = "") -> None:
+    def __init__(self, sentence: str, place: str = "", about: str = "") -> None:
         super().__init__(sentence, place)
-        self.sentence = sentence
-        self.place = place
+        self.sentence, self.place, self.about = sentence, place, about
 
     def __str__(self) -> str:
         return f"{self.place}: {self.sentence}" if self.place else self.sentence

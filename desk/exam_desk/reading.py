@@ -16,8 +16,8 @@ import time
 from collections.abc import Callable, Collection, Iterable
 from typing import Any, NamedTuple, TypeVar
 
-from exam_desk import facts, private, running, snapshot
-from exam_desk.asking import Progress, Serve
+from exam_desk import facts, private, running, snapshot, turns
+from exam_desk.asking import Progress, Serve, Server, ask_all
 from exam_desk.office import Office, BadRows, NoCandidate, Trouble
 from exam_desk.words import plain
 
@@ -63,9 +63,11 @@ class Person(NamedTuple):
 class Reading(contextlib.AbstractContextManager["Reading"]):
     """A context. Several threads may use it; the first that asks must live as long as it."""
 
-    def __init__(self, office: Office, path: str | None = None, progress: Progress = lambda done, of: None) -> None:
-        """Reads the office, or another file of an office. Raises `Trouble` where it cannot be read."""
-        self.office = office
+    def __init__(self, office: Office, path: str | None = None, progress: Progress = lambda done, of: None,
+                 kept: Server | None = None) -> None:
+        """Reads the office, or another file of an office. Who is given as `kept` is asked in place of a `serve` over
+        the copy. Raises `Trouble` where it cannot be read."""
+        self.office, self.kept = office, kept
         self.path = path or office.path
         self.progress = progress
         self.asking, self.printing = threading.Lock(), threading.Lock()
@@ -146,7 +148,10 @@ class Reading(contextlib.AbstractContextManager["Reading"]):
         with self.asking:
             unknown = [person for person in people if person.number not in known]
             requests = [REQUEST.format(person.number, what, person.code).encode("ascii") for person in unknown]
-            bodies = self.begun().bodies(requests, self.progress) if requests else []
+            if self.kept:
+                bodies = ask_all(self.kept, requests, [], self.progress)
+            else:
+                bodies = self.begun().bodies(requests, self.progress) if requests else []
             known.update((person.number, read(objects(body, what))) for person, body in zip(unknown, bodies))
 
     def begun(self) -> Serve:
@@ -186,6 +191,20 @@ class Reading(contextlib.AbstractContextManager["Reading"]):
                 said = running.run_over(self.office, self.copy, "check").answer
             if said.startswith("bad "):
                 raise BadRows(self.path, said.removeprefix("bad ").strip())
+
+
+def of_few(office: Office, read: Callable[[Reading], Found]) -> Found:
+    """What is read of a few candidates. `keep` is asked where it serves, which opens no office anew, if this stays as
+    it was copied meanwhile: so the rows and the answers are of one moment."""
+    state = turns.keep_state(office)
+    if state and state.get("state") == "serving":
+        with (contextlib.suppress(OSError, Trouble),
+              Reading(office, kept=Server(state["pid"], state["place"])) as reading):
+            found = read(reading)
+            if reading.is_current():
+                return found
+    with Reading(office) as reading:
+        return read(reading)
 
 
 def state_of(path: str) -> list[tuple[int, ...]]:

@@ -58,7 +58,7 @@ def plan(reading: Reading, number: str, paper: str, start: str, hall: str) -> Pl
     rows, first = reading.rows, paper_row(reading.rows, paper)
     refuse_without_clash(reading, number, first)
     if rows.execute("SELECT 1 FROM hall WHERE code = ?", [hall]).fetchone() is None:
-        raise Trouble(f"the office has no hall {hall}; nothing is changed")
+        raise Trouble(f"the office has no hall {hall}; nothing is changed", about="hall")
     then = rows.execute(SESSIONS_THEN, [first["day"], overlaps.of_day(start), hall])
     there = next((code for code, in then if is_numbered(code, first["session"])), None)
     session = there or free_code(rows, "session", first["session"])
@@ -87,7 +87,7 @@ def plan(reading: Reading, number: str, paper: str, start: str, hall: str) -> Pl
 def paper_row(rows: Rows, code: str) -> sqlite3.Row:
     found: sqlite3.Row | None = rows.execute(f"{PAPERS} WHERE paper.code = ?", [code]).fetchone()
     if found is None:
-        raise Trouble(f"the office has no paper {code}; nothing is changed")
+        raise Trouble(f"the office has no paper {code}; nothing is changed", about="paper")
     return found
 
 
@@ -96,9 +96,11 @@ def refuse_without_clash(reading: Reading, number: str, paper: sqlite3.Row) -> N
     member = reading.member(session := paper["session"], number)
     missed = reading.clashes(session, [number]).get(number, [])
     if member is None or paper["code"] not in (member.sitting.paper, *missed):
-        raise Trouble(f"{number} is not entered for {paper['code']}, or the entry is withdrawn; nothing is changed")
+        raise Trouble(f"{number} is not entered for {paper['code']}, or the entry is withdrawn; nothing is changed",
+                      about="paper")
     if not missed:
-        raise Trouble(f"{number} has no other paper in {session}, so no second sitting is needed; nothing is changed")
+        raise Trouble(f"{number} has no other paper in {session}, so no second sitting is needed; nothing is changed",
+                      about="paper")
 
 
 def numbered(code: str, place: int) -> str:
@@ -213,7 +215,7 @@ def refuse_otherwise(planned: Plan, after: Reading, first: Sitting, second: Memb
                       "changed")
     if then.hall != planned.hall:
         reason = dict(Reasons(after, planned.session).of(second)).get(planned.hall)
-        raise Trouble(f"{number} would have no desk in {planned.hall} ({reason}); nothing is changed")
+        raise Trouble(f"{number} would have no desk in {planned.hall} ({reason}); nothing is changed", about="hall")
     for other in overlaps.beside(overlaps.starts(after), then, after.all_of(number).values()):
         raise Trouble(f"{number} sits {other.paper} in {other.session} from {other.start} to {other.finish}, and would "
                       f"sit {then.paper} from {then.start} to {then.finish}; nothing is changed")

@@ -23,7 +23,9 @@ def text(rows: Rows) -> str:
 
 
 def is_one(path: str) -> bool:
-    """Whether a file has titles, or nothing."""
+    """Whether a file has titles, or nothing; a pipe, at which a change would wait for ever, is none."""
+    if not os.path.isfile(path):
+        return False
     with contextlib.suppress(ValueError, TypeError, RecursionError), open(path, encoding="ascii") as file:
         found = file.read()
         return not found or tuple(json.loads(found)) == KINDS

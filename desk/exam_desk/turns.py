@@ -114,7 +114,7 @@ def said_by(process: int, text: bytes) -> Said:
     with contextlib.suppress(ValueError, RecursionError):
         said = json.loads(text)
         if isinstance(said, dict) and said.get("pid") == process:
-            return said
+            return {"place": str(said.get("port")), **said}  # version 1.0.0 says a port
     return {"pid": process}
 
 

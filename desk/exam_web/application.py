@@ -27,7 +27,8 @@ from exam_web.wording import text
 
 HOST = "127.0.0.1"  # no option names another
 LOCK = "desk.lock"  # of the desk that runs; it says where
-THREADS = 6
+THREADS = 20  # each page that waits for a rehearsal keeps one
+MOST_CONNECTIONS = 300  # more than the 256 that a page of a stranger can have a browser hold
 SILENCE = 120  # seconds after which a connection without a request is closed
 SCREENS = [guard.pages, season.pages, session.pages, candidates.pages, candidates.appeal_pages, candidates.clash_pages,
            uploads.pages, proposals.pages, office.pages]
@@ -148,4 +149,5 @@ def serve(office: Office, ports: Sequence[int], pretended: bool, ready: Callable
         ready(guard.new_link(office.path, address, prefix))
         serve: Callable[..., None] = waitress.serve  # untyped where python3-typeshed is missing
         serve(door, sockets=[listening], threads=THREADS, ident="desk",
-              max_request_body_size=guard.MOST_UPLOAD + (1 << 20), channel_timeout=SILENCE, _quiet=True)
+              max_request_body_size=guard.MOST_UPLOAD + (1 << 20), channel_timeout=SILENCE,
+              connection_limit=MOST_CONNECTIONS, _quiet=True)

@@ -14,8 +14,8 @@ from exam_desk.reading import Person
 from exam_desk.sheets import slips as slip_pages
 from exam_desk.sheets import texts
 from exam_web import proposals
-from exam_web.desk import (Form, Page, Wrong, at_field, candidate_row, checked, desk, lead, office,
-                           styled, sums, tell_papers, view)
+from exam_web.desk import (Form, Page, Wrong, as_known, at_field, candidate_row, checked, desk, lead, office, styled,
+                           sums, tell_papers, view)
 from exam_web.proposals import APPEALS, BY_DAY, PLANS, TROUBLE, Plan, command, import_step
 from exam_web.session import Session
 from exam_web.wording import link, text
@@ -78,9 +78,9 @@ def note(number: int) -> Response:
     """Keeps the note on a candidate, or takes it away; no seat depends on it."""
     candidate_row(number)
     page_of: Page = ("candidates.page", {"number": number})
-    given = checked(page_of, request.form, note=typed.REASON)["note"]
     known = notebook.notes(desk().office).get(f"{number:07}", "")
-    if request.form.get("was", known) != known:
+    given = as_known(checked(page_of, request.form, note=typed.REASON)["note"], known)
+    if as_known(request.form.get("was", known), known) != known:
         wrong = text("somebody has changed it meanwhile; it says: {note}", note=known or "–")
         raise Wrong(page_of, note=wrong)
     notebook.take_notes(office(), {f"{number:07}": given})
@@ -183,7 +183,7 @@ def of_one(field: str, step: Callable[[Values], Step], form: Form, is_of_now: bo
     state of the office, or that of now alone."""
     values, page = candidate(form)
     asked = [checked(page, MultiDict({field: value}), **{field: field})[field] for value in form.getlist(field) or [""]]
-    steps = [step({**values, field: value}) for value in asked]
+    steps = [step({**values, field: as_known(value, values.get(field, ""))}) for value in asked]
     return Plan({**values, field: ", ".join(asked)}, steps, page, field, made_for=view().name if is_of_now else "")
 
 

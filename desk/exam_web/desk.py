@@ -183,21 +183,26 @@ class Wrong(Exception):
 
 
 def wrong_page(wrong: Wrong) -> ResponseReturnValue:
-    """The page of a form, with what is wrong at its fields and all that was given."""
+    """The page of a form, with what is wrong at its fields and all that was given. Where that leads elsewhere by now,
+    since there is no such form any more, the other page says what is wrong."""
     g.asked, (endpoint, values) = wrong.asked, wrong.page
     try:
-        return current_app.view_functions[endpoint](**values), 422
+        page = current_app.view_functions[endpoint](**values)
     except Exception as fault:  # what the form is about is gone, or the office cannot be read
         return current_app.handle_user_exception(fault)
+    if isinstance(page, Response):
+        g.visit.said += [("bad", words) for words in wrong.asked.wrong.values()]
+        return page
+    return page, 422
 
 
 @contextlib.contextmanager
 def at_field(page: Page, field: str) -> Iterator[None]:
-    """What the package refuses is said beside a field."""
+    """What the package refuses is said beside a field: the one that it is about, if it says that."""
     try:
         yield
     except Trouble as trouble:
-        raise Wrong(page, **{field: said(trouble.sentence)}) from trouble
+        raise Wrong(page, **{trouble.about or field: said(trouble.sentence)}) from trouble
 
 
 def lead(endpoint: str, said: Markup | None = None, kind: str = "good", **values: Any) -> Response:
@@ -229,6 +234,11 @@ def value_of(form: Form, name: str, column: str) -> str:
         return "+".join(each for each in words.FEATURES if each in form.getlist(name)) or "-"
     value = form.get(name, "").strip()
     return typed.number(value) if column == "number" else value
+
+
+def as_known(given: str, known: str) -> str:
+    """What a field was given; where that is what a page shows of what is known, with `?` for what hides in it, this."""
+    return known if given == words.plain(known) else given
 
 
 def cure(column: str) -> Markup:

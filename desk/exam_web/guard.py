@@ -96,12 +96,13 @@ class Guard:
         app.after_request(self.dress)
 
     def door(self, environ: dict[str, Any], start: Callable[..., Any]) -> Iterable[bytes]:
-        """Lets through to the pages what asks for the desk's own address, below its secret prefix."""
+        """Lets through to the pages what asks for the desk's own address, below its secret prefix. A refusal says no
+        length, so its connection ends with it: a page of a stranger holds none."""
         path = environ.get("PATH_INFO", "")
         if environ.get("HTTP_HOST") != self.address:  # a stranger's name that points here (DNS rebinding)
-            return Response(STRANGE_HOST.format(self.address), 421, REFUSED)(environ, start)
+            return Response(iter([STRANGE_HOST.format(self.address)]), 421, REFUSED)(environ, start)
         if not path.startswith(self.prefix + "/"):
-            return Response(NOTHING, 404, REFUSED)(environ, start)
+            return Response(iter([NOTHING]), 404, REFUSED)(environ, start)
         environ |= {"SCRIPT_NAME": self.prefix, "PATH_INFO": path[len(self.prefix):]}
         answer: Iterable[bytes] = self.app(environ, start)
         return answer

@@ -13,8 +13,8 @@ from werkzeug.wrappers import Response
 
 from exam_desk import backups, changing, copies, facts, keeping, logbook, notebook, turns
 from exam_desk.office import Stale, Trouble
-from exam_web.desk import View, Wrong, archive, at_field, desk, lead, office, once, sums, tell_papers, view
-from exam_web.proposals import MOST_ROWS, Effects, copy_key
+from exam_web.desk import View, Wrong, archive, as_known, at_field, desk, lead, office, once, sums, tell_papers, view
+from exam_web.proposals import MOST_ROWS, Effects, copy_key, done_since
 from exam_web.wording import said, text
 
 pages = Blueprint("office", __name__)
@@ -44,19 +44,14 @@ def copy_of(key: str) -> str:
     return next((path for path in paths() if copy_key(path) == key), "") or abort(404)
 
 
-def log_since(when: str = "") -> list[list[str]]:
-    """The last lines of the log, the newest first."""
-    return [line for line in logbook.last_lines(desk().office) if line[0] >= when][:-MOST_LINES - 1:-1]
-
-
 @pages.get("/office")
 def page() -> str:
     found = [(copy_key(path), *copies.when_and_what(path), copies.is_brought(path)) for path in paths()]
     school = ""
     with contextlib.suppress(Trouble):  # its file is damaged: what changes the name says so
         school = notebook.school_name(desk().office)
-    return render_template("office.html", copies=found, log=log_since(), keep=turns.keep_state(desk().office),
-                           school=school)
+    return render_template("office.html", copies=found, log=[*logbook.last_lines(desk().office)][:-MOST_LINES - 1:-1],
+                           keep=turns.keep_state(desk().office), school=school)
 
 
 @pages.get("/office/copies/<key>")
@@ -73,7 +68,7 @@ def copy(key: str) -> str:
                            e=compared(now, path) if now else None, most=MOST_ROWS, doubt=copies.OTHERS, lost=lost,
                            held=[] if now else [*sums(view_of(path)).values()],
                            names=facts.candidate_names(now.reading.rows) if now else {},
-                           log=[line for line in log_since(since) if line[3] not in (logbook.BEGINS, logbook.STEP)])
+                           log=done_since(desk().office, since)[:-MOST_LINES - 1:-1])
 
 
 def view_of(path: str) -> View:
@@ -131,7 +126,7 @@ def school() -> Response:
     """Keeps the name of the school, which stands on its papers, or takes it away."""
     name = request.form.get("name", "").strip()
     with at_field(("office.page", {}), "name"):
-        notebook.set_school_name(office(), name)
+        notebook.set_school_name(office(), as_known(name, notebook.school_name(desk().office)))
     tell_papers()
     told = text("The papers of the school have its name now.") if name else text("The school has no name now.")
     return lead("office.page", told)

@@ -184,7 +184,8 @@ def work(plan: Plan, task: Callable[[Plan, Desk, Office], None]) -> None:
             with here.rehearsing:
                 task(plan, here, who)
         except (Trouble, OSError, sqlite3.Error) as fault:
-            plan.against = [str(fault)]
+            plan.against, about = [str(fault)], getattr(fault, "about", "")
+            plan.fields |= {TROUBLE: about} if about else {}
         except Exception:
             plan.against = [WRONG_DESK]
             raise
@@ -233,14 +234,19 @@ def carry_out(plan: Plan, here: Desk, who: Office) -> None:
     except Stale:
         since = plan.since
         rehearse(plan, here, who)
-        plan.moved_on = [line for line in logbook.last_lines(who) if line[0] >= since
-                         and line[3] not in (logbook.BEGINS, logbook.STEP)][-MOST_LINES:]
+        plan.moved_on = done_since(who, since)[-MOST_LINES:]
         return
     plan.take(who, carried.answers)
     plan.copy, plan.as_promised = carried.copy or "", carried.as_promised is not False
     plan.is_done = not plan.refusal
     if plan.is_done:
         plan.done()
+
+
+def done_since(who: Office, when: str) -> list[list[str]]:
+    """The last lines of the log on what has ended since then."""
+    return [line for line in logbook.last_lines(who)
+            if line[0] >= when and line[3] not in (logbook.BEGINS, logbook.STEP)]
 
 
 def copy_key(path: str) -> str:

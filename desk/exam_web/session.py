@@ -16,8 +16,8 @@ from exam_desk.overlaps import of_day
 from exam_desk.reading import Member
 from exam_desk.sheets import papers, slips
 from exam_desk.words import clock, parted
-from exam_web.desk import (Form, Page, View, Wrong, at_field, attached, checked, desk, lead, office, once, styled, sums,
-                           tell_papers, view)
+from exam_web.desk import (Form, Page, View, Wrong, as_known, at_field, attached, checked, desk, lead, office, once,
+                           styled, sums, tell_papers, view)
 from exam_web.proposals import APPEALS, PLANS, Plan, command, import_step
 from exam_web.wording import many, text
 
@@ -237,10 +237,11 @@ def change_row(kind: str, form: Form) -> Plan:
     """Another row in the place of one that the office has; `at` is the session whose page leads to its form."""
     table, *columns = files.HEADERS[kind]
     shown, code = Session(form.get("at", "")), form.get(table, "")
-    if not view().row(f"SELECT 1 FROM {table} WHERE code = ?", [code]):
-        abort(404)
+    row = view().row(f"SELECT * FROM {table} WHERE code = ?", [code]) or abort(404)
     page = {"paper": ("session.paper", {"paper": code}), "hall": shown.hall_page(code)}.get(table, shown.page)
     values = {table: code, **checked(page, form, **dict(zip(columns, columns)))}
+    if "title" in values:
+        values["title"] = as_known(values["title"], row["title"])
     beside = "session" if "session" in columns else columns[0]
     return Plan(values, [import_step(kind, values)], shown.page, beside, form_page=page)
 

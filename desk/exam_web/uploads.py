@@ -23,11 +23,12 @@ from exam_desk.changing import Step
 from exam_desk.mistakes import Mistake
 from exam_desk.office import Trouble
 from exam_desk.workbook import tables
-from exam_desk.workbook.cells import MOST_CELLS, MOST_FILE, Book
+from exam_desk.workbook.cells import MOST_CELLS, MOST_FILE, NO_WORKBOOK, Book
 from exam_desk.workbook.headers import HEADER_WORDS, Given, folded, is_called_list, read_columns
 from exam_desk.workbook.opening import book_of
 from exam_desk.workbook.reading import encoded, read_book, workbook_of
 from exam_desk.workbook.values import Way
+from exam_desk.words import plain
 from exam_web.desk import Form, Page, Wrong, archive, at_field, attached, keep, lead, view
 from exam_web.proposals import PLANS, Plan
 from exam_web.wording import many, said, shown, text
@@ -39,7 +40,7 @@ NO_TABLE = (".pdf", ".doc", ".docx", ".odt", ".rtf", ".pages", ".numbers", ".jpg
             ".heic")
 HIDDEN = (".", "~$")  # how names begin of what macOS adds, and of what Excel keeps beside a workbook that is open
 MOST_UPLOADS = 4  # of a visit
-MOST_SHOWN = 40  # mistakes of a file on the page
+MOST_SHOWN, MOST_NAMED = 40, 3  # mistakes of a file on the page; rows beside a field
 MOST_CURED = 20_000  # of a file that one press of a button can mend
 MOST_VALUE = 400  # letters of a value that is typed
 MOST_LINES = 300  # on workbooks, on the page
@@ -62,6 +63,7 @@ class Upload:
     is_called_list: bool = False  # a file, or a sheet of entries, is called withdrawals or reinstatements
     notes: list[Markup] = field(default_factory=list)
     mistakes: int = 0  # that the last look found
+    corrected: int = 0  # how often: lines of a page from before are those of other rows
     is_imported: bool = False
     when: str = field(default_factory=lambda: datetime.datetime.now().isoformat(" ", "minutes"))
 
@@ -115,7 +117,7 @@ def parts(upload: Upload, storages: Iterable[FileStorage]) -> Iterator[tuple[str
 
 
 def members(upload: Upload, name: str, archive: zipfile.ZipFile) -> Iterator[tuple[str, bytes, int]]:
-    found = [each for each in archive.infolist() if not each.is_dir() and bare(each.filename)]
+    found = [each for each in archive.infolist() if bare(each.filename) and not each.is_dir()]
     if not 0 < len(found) <= MOST_MEMBERS:
         upload.note(name, text("it holds {count} files; give the seven alone", count=len(found)))
         return
@@ -165,7 +167,7 @@ def read_books(upload: Upload) -> None:
     days = {code.decode(): day.decode() for code, day, _ in brought.get("sessions", [])}
     job = tables.Job(known, upload.way, given, names, leave, hidden=upload.hidden, lines=upload.lines, days=days)
     try:
-        take_rows(upload, ", ".join(name for name, _ in upload.books), read_book(book, job).records)
+        take_rows(upload, ", ".join(name for name, _ in upload.books), book.form, read_book(book, job).records)
     except Trouble as trouble:
         upload.note(upload.books[0][0], said(trouble.sentence))
 
@@ -191,13 +193,13 @@ def together(upload: Upload) -> Book:
     return whole
 
 
-def take_rows(upload: Upload, name: str, records: Mapping[str, list[tables.Record]]) -> None:
+def take_rows(upload: Upload, name: str, form: str, records: Mapping[str, list[tables.Record]]) -> None:
     """Takes the rows of the sheets where no line is a mistake; else the files know of them, and they are not taken."""
     wrong = [line for line in upload.lines if line.sort == "mistake"]
     if not records and not any(line.sheet for line in wrong):
-        upload.lines = []
-        upload.note(name, text("it has no row below the header of one of the seven files: take the empty "
-                               "workbook of the page Files"))
+        upload.lines, is_broken = [], form == "csv" and name.lower().endswith(files.TABLES[1:])
+        upload.note(name, said(NO_WORKBOOK) if is_broken else text(
+            "it has no row below the header of one of the seven files: take the empty workbook of the page Files"))
     elif wrong:
         upload.rows = {kind: [tuple(map(encoded, each.fields)) for each in found] for kind, found in records.items()}
     else:
@@ -273,7 +275,7 @@ def corrected_row(kind: str, fields: list[str], faults: list[Mistake], form: For
             return []
         if each.column in files.HEADERS[kind]:
             place = files.HEADERS[kind].index(each.column)
-            had = fields[place].encode("utf-8", "surrogateescape").decode("utf-8", "replace")  # as the page shows it
+            had = plain(fields[place].encode("utf-8", "surrogateescape").decode("utf-8", "replace"))  # on the page
             value = each.write or had if "all" in form else form.get(name, had)
             found[place] = fields[place] if value == had else value[:MOST_VALUE]
     return found
@@ -317,7 +319,10 @@ def look(key: str) -> str:
 def correct(key: str) -> Response:
     """Values typed beside mistakes, or all cures that are clear; the officer's own files stay as they are."""
     found: Upload = g.visit.uploads.get(key) or abort(404)
-    rows = 0
+    if request.form.get("corrected", found.corrected, int) != found.corrected:
+        told = text("Nothing is corrected: the rows are others than the page showed. This is how they stand now.")
+        return lead("files.look", told, "bad", key=key)
+    rows, found.corrected = 0, found.corrected + 1
     for kind, looked in looked_through(found).items():
         found.texts[kind], others = corrected(kind, found.texts[kind], looked.faults, request.form)
         rows += others
@@ -382,12 +387,13 @@ def withdraw_list(upload: Upload, what: str, page: Page, done: Callable[[], None
     fitting, why = (known.entries, text("it is no entry that counts")) if what == "withdraw" else (
         known.withdrawn, text("it is no withdrawn entry"))
     steps = [Step((what, *map(bytes.decode, fields))) for fields in lines if fields in fitting]
-    if not 0 < len(steps) <= MOST_LISTED:
-        raise Wrong(page, choice=text("this can be done to {count} of the rows; a list has 1 to {most} such",
-                                      count=len(steps), most=MOST_LISTED))
     left = [text("line {line}, {row}, is left out: {why}", line=line, why=why,
                  row=b" ".join(fields).decode("utf-8", "replace"))
             for fields, line in lines.items() if fields not in fitting]
+    if not 0 < len(steps) <= MOST_LISTED:
+        counted = text("this can be done to {count} of the rows; a list has 1 to {most} such", count=len(steps),
+                       most=MOST_LISTED)
+        raise Wrong(page, choice=Markup("; ").join([counted, *left[:MOST_NAMED]]))
     more = [text("and {count} more", count=len(left) - MOST_SHOWN)] * (len(left) > MOST_SHOWN)
     return Plan({"kinds": "entries", "choice": what, "count": str(len(steps))}, steps, page, done=done,
                 command=f"{what} --list {upload.names[-1]}", made_for=view().name,

@@ -22,10 +22,12 @@ from cells import Cells
 from moments import at_one_time, of_candidate
 
 from exam_desk import overlaps, reasons, telling  # beside the tests' folder
+from exam_desk.facts import session_row
 from exam_desk.lists import fold, name_order
 from exam_desk.office import Office
 from exam_desk.reading import Reading
-from exam_desk.sheets import papers, slips, texts
+from exam_desk.sheets import papers, printing, slips, texts
+from exam_desk.sheets.session_page import Page
 from exam_desk.words import FEATURES, plain
 
 TODAY = datetime.date(2027, 5, 1)
@@ -206,7 +208,7 @@ class RandomOffice:
             papers, halls = telling.titles_of(reading)
             self.titles = papers | halls  # no hall has the code of a paper here
             for session in self.sessions:
-                for look in (self.doors, self.by_name, self.counts, self.reasons):
+                for look in (self.doors, self.by_name, self.counts, self.session_page, self.printed, self.reasons):
                     look(reading, session)
             self.slips(reading)
             self.summary(reading)
@@ -287,6 +289,41 @@ class RandomOffice:
 
     def titled(self, code):
         return f"{plain(self.titles[code])} ({code})"
+
+    def session_page(self, reading, session):
+        found = Page(reading, session)
+        page = found.document()
+        assert not found.faults, found.faults
+        assert not Cells(page).strange, Cells(page).strange
+        seats = self.now[session]
+        seated = [[table for table in Cells(f"<table>{part}").rows if len(table) == 5][1:]
+                  for part in part_of(page, "seats", "clashes").split("<section class=hall")[1:]]
+        wanted = [[[seat.desk, number, plain(seat.name), seat.paper, seat.finish] for number, seat in
+                   sorted(seats.items(), key=lambda each: int(each[1].desk.replace("-", "0")))
+                   if seat.hall == opening.hall]
+                  for opening in found.openings]
+        equal(seated, wanted, "session page", page)
+        equal(Cells(part_of(page, "clashes", "appeals")).rows[1:],
+              [[number, plain(seats[number].name), sits, clash] for number, sits, clash in self.clashes(session)],
+              "clashes", page)
+        rows = Cells(page[page.index("<section id=appeals>"):]).rows[1:]
+        register = [line.split(None, 5) for line in self.sheet(self.path, "appeals", session)[2:]]
+        equal([[number, ref, kind, state, lodged, subject] for number, _, ref, kind, subject, lodged, state in rows],
+              register, "appeals", page)
+        sheet = reasons.read_sheet("\n".join([*self.sheet(self.path, "shortage", session), ""]))
+        unseated = sum(seat.hall == "-" for seat in seats.values())
+        assert (f"{len(seats):,} candidate" in page and sheet.unseated == unseated
+                and (f"+ {sheet.unseated} unseated</p>" in page) == (sheet.unseated > 0)), "shortage"
+
+    def printed(self, reading, session):
+        halls = reading.rows.execute("SELECT hall FROM opening WHERE session = ? ORDER BY hall", [session])
+        names = [("door-list", session, hall) for hall, in halls]
+        names += [("attendance", session, paper) for paper, of in sorted(self.papers.items()) if of == session]
+        names.append(("clashes", session))
+        wanted = {name: lines for name in names
+                  if len(lines := self.sheet(self.path, *name)) > 2 or name[0] == "clashes"}
+        found = printing.written(reading, session_row(reading.rows, session))
+        equal(list(found.items()), list(wanted.items()), "print-session", found)
 
     def reasons(self, reading, session):
         """Nobody who has no desk suits a hall with a free one; the program's sheet adds up."""
@@ -386,6 +423,11 @@ class RandomOffice:
         self.compared["changes"] += len(wanted)
         for row in rows:
             equal(row[0], "yes" if row[6:9] != row[12:15] or not row[7] or not row[13] or row[-1] else "no", "tell", row)
+
+
+def part_of(page, first, behind):
+    """The page of a session from one of its sections to another."""
+    return page[page.index(f"<section id={first}>"):page.index(f"<section id={behind}>")]
 
 
 def equal(found, wanted, what, page):

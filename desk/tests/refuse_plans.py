@@ -11,6 +11,7 @@ from unittest import mock
 DESK = pathlib.Path(__file__).resolve().parent.parent
 sys.path.insert(0, str(DESK))
 from exam_desk import changing, lodging, refusals  # noqa: E402
+from exam_desk.listed import OF_THE_OFFICE  # noqa: E402
 from exam_desk.office import Office  # noqa: E402
 from exam_desk.running import Ran  # noqa: E402
 from exam_desk.workbook.values import Way  # noqa: E402
@@ -36,6 +37,8 @@ FORMS = {  # a form of each plan that the sample school takes, and the page that
     "second": ("/clashes/MON-AM/1051", {**WHO, **MONDAY, "paper": "LAT", "start": "11:00", "hall": "R14"}),
     "second-back": ("/candidates/1306", {"number": "0001306", "paper": "MA-2", "key": "MA-2"}),
 }
+FIELDS = {("open", 7): "hall", ("open", 20): "desks", ("close", 25): "lost", ("lodge", 8): "wanted_hall",
+          ("lodge", 20): "session", ("enter", 5): "paper", ("paper", 20): "session"}  # beside which a refusal stands
 wrong, tries = [], []
 
 
@@ -85,6 +88,9 @@ def refused(browser, what, number):
     holds(line not in text, f"{what} {number} shows its code")
     holds(("aria-invalid" in text or 'class="fault"' in text) if at_field else "/do" not in text,
           f"{what} {number} stands at no field, or could be done")
+    holds(not (at_field and number in OF_THE_OFFICE), f"{what} {number} is of the office, and stands at a field")
+    field = FIELDS.get((what, number), "")
+    holds(f'href="#at-{what}-{field}' in text or not field, f"{what} {number} does not stand at {field}")
 
 
 def refused_late(browser, what):

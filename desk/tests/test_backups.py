@@ -17,13 +17,26 @@ from exam_desk.office import Stale, Trouble
 APPEAL = "INSERT INTO appeal VALUES (1051, 'HA1', 'MON-AM', 1, 'PC1', 0, 0, 'x', 1, NULL, '2027-05-01')"
 
 
-def zipped(parts, packing=zipfile.ZIP_DEFLATED):
+def zipped(parts, form=zipfile.ZIP_DEFLATED):
     """A zip of these parts, by name."""
     out = io.BytesIO()
-    with zipfile.ZipFile(out, "w", packing) as archive:
+    with zipfile.ZipFile(out, "w", form) as archive:
         for name, content in parts.items():
             archive.writestr(name, content)
     return out.getvalue()
+
+
+def misleading(parts):
+    """Two zips that `zipfile` does not read: the parts of one lie beyond all files, in the other they are no LZMA."""
+    far, packed = io.BytesIO(), io.BytesIO()
+    with zipfile.ZipFile(far, "w") as archive:
+        for name, content in parts.items():
+            archive.writestr(name, content)
+            archive.infolist()[-1].header_offset = 1 << 63
+    with zipfile.ZipFile(packed, "w", zipfile.ZIP_LZMA) as archive:
+        for name, content in parts.items():
+            archive.writestr(name, content)
+    return [far.getvalue(), packed.getvalue().replace(b"\5\0\x5d", b"\5\0\xff")]  # how the data begin
 
 
 class Backups(sample.SampleSchool):
@@ -141,6 +154,7 @@ class TestRefused(Backups):
                               (backups.SEVERAL, self.zip(**{"b.db": self.first})),
                               (backups.BROKEN, whole[:-40]), ("it has a password", bytes(locked)),
                               (backups.BROKEN, bytes(lying)),
+                              *((backups.BROKEN, each) for each in misleading({"office.db": self.first})),
                               (backups.BROKEN, zipped({"a": bytes(99)}, zipfile.ZIP_LZMA).replace(b"\xdf\xff\xff", b"xxx")),
                               (backups.BROKEN, whole[:len(whole) // 2] + b"x" * 9 + whole[len(whole) // 2 + 9:]),
                               (r"this copy is no good office \(bad office", self.zip(**{"office.db": self.bytes_of("other.db")})),
@@ -166,6 +180,11 @@ class TestRefused(Backups):
                 with self.brought(self.zip()):
                     self.fail("it is there")
             self.assertEqual(str(fault.exception), "[Errno 28] said" if raised is OSError else backups.BROKEN)
+
+    def test_more_memory_than_there_is(self):
+        """A zip can ask for a dictionary of 4 GB."""
+        with mock.patch("shutil.copyfileobj", side_effect=MemoryError):
+            self.refuses(backups.BROKEN, self.zip())
 
     def test_no_name_becomes_a_path(self):
         """Paths that lead out of it, links, names of a notebook's form and none."""

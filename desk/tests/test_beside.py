@@ -175,9 +175,8 @@ class Copies(Beside):
         others = ["2027-04-01.new", "letters", "2027-04-01 by hand"]
         for name in (*others, "2027-04-01", "2027-04-02", "2099-01-01"):
             os.makedirs(os.path.join(self.desk, "days", name), 0o700)
-        with mock.patch("exam_desk.copies.MOST_DAYS", 2):
-            self.assertTrue(copies.keep_day(self.value, datetime.date(2027, 5, 1)))
-            self.assertIsNone(copies.keep_day(self.value, datetime.date(2027, 5, 1)))
+        self.assertTrue(copies.keep_day(self.value, datetime.date(2027, 5, 1), 2))
+        self.assertIsNone(copies.keep_day(self.value, datetime.date(2027, 5, 1), 2))
         self.assertEqual(sorted(os.listdir(os.path.join(self.desk, "days"))),
                          sorted([*others, "2027-04-02", "2027-05-01"]))  # none to come, which a wrong clock made
 

@@ -129,10 +129,11 @@ class TestRehearsal(DeskSchool):
         before = self.seats()
         self.browser.post(page + "/do", page)
         self.assertIn("nothing was done", self.browser.words(page))
-        self.assertIn(f"withdraw {other:07} PH-1", self.browser.words(page))
+        self.assertEqual(self.browser.words(page).count(f"withdraw {other:07} PH-1"), 1)  # and not that it began
         self.assertEqual(self.seats(), before)
         self.browser.post(page + "/do", page)  # from what is shown now
         self.assertIn("What changed", self.browser.words(page))
+        self.assertNotIn("nothing was done", self.browser.words(page))
         self.assertNotEqual(self.seats(), before)
 
     def test_another_name_is_asked_once_more_where_the_code_is_another_meanwhile(self):
@@ -189,6 +190,7 @@ class TestSecondSitting(DeskSchool):
         self.assertNotIn("0001051", self.browser.words("/clashes?session=MON-AM"))
         self.assertEqual(self.browser.ask("GET", self.PAGE)[0].status, 302)
         self.assertIn("Take the second sitting back", self.browser.words("/candidates/1051"))
+        self.assertNotIn('value="LAT-2"', self.browser.get("/candidates/1000"))  # it has a form of its own
         page, _ = self.browser.post("/propose/second-back", "/candidates/1051", number="0001051", paper="LAT")
         text = self.browser.words(page)
         self.assertIn("sits CS-1 again, and misses LAT", text)

@@ -9,7 +9,7 @@ import unittest
 import zipfile
 
 from desk_client import MARK, PYTHON, DeskSchool
-from test_backups import zipped
+from test_backups import misleading, zipped
 from exam_desk import files
 from sample import DESK, KINDS
 
@@ -21,6 +21,7 @@ upload = uploads.Upload(Way(), books=[("a.csv", b"a;b\\n1;2\\n"), ("b.csv", b"a;
 with mock.patch.multiple(uploads, MOST_CELLS=5, text=lambda words: words):
     print([sheet.name for sheet in uploads.together(upload).sheets], *map(str, upload.notes), sep="\\n")
 """
+HALLS = b"hall,title,features\nR20,Room,-\n"
 NEW = b"number,name,code\n12001,Nadia,K4WBN7RTQD\n0012008,Tom,\n"
 
 
@@ -205,6 +206,8 @@ class TestFiles(Uploads):
                 ("x.dat", png, "x.dat : it is no workbook, whatever its name: open it in a spreadsheet and save it"),
                 ("entries.csv", png, "it is no workbook, whatever its name"),
                 ("c.csv", b"number;name;code\n1;Zo\xe9;ABCDEFGH\n", "its letters are no UTF-8: save it as CSV UTF-8"),
+                ("s.xlsx", b"a text", "s.xlsx : it is no workbook, whatever its name"),
+                ("S.ODS", b"number,name\n", "S.ODS : it is no workbook, whatever its name"),
                 ("readme.txt", b"hello", "it has no row below the header of one of the seven files: take the empty")):
             words = self.browser.words(self.upload((name, content)))
             self.assertIn(said, words)
@@ -446,8 +449,10 @@ class TestFiles(Uploads):
         self.carry_out(proposal)
         self.assertNotIn(number, self.live())
         page = self.upload(("l.csv", f"{text}{number},EN-1\n".encode()))
-        self.assertIn("this can be done to 0 of the rows", self.browser.post("/propose/files", page, 422,
-                                                                            upload=page[-12:], choice="withdraw")[1])
+        _, text = self.browser.post("/propose/files", page, 422, upload=page[-12:], choice="withdraw")
+        fault = re.sub("<.*?>", "", text.partition('id="fault-files-choice"')[2].partition("</span>")[0])
+        self.assertIn(f"this can be done to 0 of the rows; a list has 1 to 300 such; line 2, {number} EN-1, is left out: "
+                      "it is no entry that counts", fault)
 
     def test_what_is_called_withdrawals_is_never_imported_unasked(self):
         rows = [["number", "paper"], ["0001051", "EN-1"], ["0001085", "LAT"]]
@@ -504,7 +509,8 @@ class TestFiles(Uploads):
             archive.writestr("../../../etc/cron.d/entries.csv", "number,paper\n0001051,EN-1\n")
             archive.writestr("deep/bomb.csv", b"number,name,code\n" + bytes(50_000_000))
         self.assertIn("more than 4194304 bytes", self.browser.words(self.upload(("all.zip", out.getvalue()))))
-        self.assertIn("cannot be read", self.browser.words(self.upload(("bad.zip", b"PK no zip"))))
+        for content in b"PK no zip", *misleading({"entries.csv": b"number,paper\n"}):
+            self.assertIn("cannot be read", self.browser.words(self.upload(("bad.zip", content))))
         out = io.BytesIO()
         with zipfile.ZipFile(out, "w") as archive:
             for place in range(65):
@@ -514,6 +520,29 @@ class TestFiles(Uploads):
         self.assertIn("Nothing could be taken", text)
         self.assertIn("none.zip : it holds 0 files", self.browser.words(self.upload(("none.zip", zipped({})))))
         self.assertEqual(self.upload(), "/files")
+        broken = bytearray(zipped({"a.csv": b"x" * 99}, zipfile.ZIP_LZMA))
+        broken[-80] ^= 255
+        self.assertIn("bad.zip : it cannot be read: Corrupt", self.browser.words(self.upload(("bad.zip", bytes(broken)))))
+        nameless = zipped({"~~~": b"", "halls.csv": HALLS}, zipfile.ZIP_STORED).replace(b"~~~", b"\0~~")
+        self.assertIn("No mistake", self.browser.words(self.upload(("nameless.zip", nameless))))
+
+    def test_a_value_that_nobody_typed_stays_as_it_is(self):
+        """It holds a sign that no page shows, and is as wrong as it was when another value is corrected."""
+        page = self.upload(("candidates.csv", b"number,name,code\n0012001,Ann\tLee,K4WBN7RTQD\n0012002,Bo,x\n"))
+        self.assertIn('name="candidates:2:name" value="Ann?Lee"', self.browser.get(page))
+        self.browser.post(page + "/correct", page, **{"candidates:2:name": "Ann?Lee", "candidates:3:code": "K4WBN7RTQE"})
+        self.assertIn("1 mistake", self.browser.words(page))
+        self.assertIn('"Ann\tLee","K4WBN7RTQD"\n"0012002","Bo","K4WBN7RTQE"', self.browser.ask(
+            "GET", page + "/candidates.csv")[1])
+
+    def test_a_page_from_before_a_correction_corrects_nothing(self):
+        """Behind a row that is left out, what was line 4 is line 3."""
+        page = self.upload(("halls.csv", HALLS + b"R20,Other,-\nR21,Room,PC\nR22,Room,PX\n"))
+        was = re.search('name="corrected" value="([^"]*)"', self.browser.get(page))[1]
+        self.browser.post(page + "/correct", page, corrected=was, **{"halls:3:row": "drop"})
+        self.browser.post(page + "/correct", page, corrected=was, **{"halls:4:features": "computer"})
+        self.assertIn("Nothing is corrected: the rows are others", self.browser.words(page))
+        self.assertRegex(self.browser.ask("GET", page + "/halls.csv")[1], 'PC"\n.*"PX"')
 
     def test_broken_files(self):
         for name, content in (("a.xlsx", b"PK"), ("a.ods", b"\x00" * 99), ("x.csv", b"\xff\xfe\x00"),

@@ -1,4 +1,5 @@
 """Who comes in at the desk in a browser, and what a page may do: each threat with a test."""
+import contextlib
 import json
 import os
 import pathlib
@@ -166,9 +167,9 @@ class TestPages(DeskSchool):
                      f"127.0.0.1.evil.example:{self.browser.port}", ""):
             for path in ("/", "/static/desk.css"):
                 self.assertIn(self.browser.ask("GET", path, headers={"Host": host})[0].status, (400, 421), host)
-        self.assertEqual(self.browser.ask("GET", "/", headers={"Host": "evil.example"}, prefix="")[0].status, 421)
-        for path in ("/", "/enter", "/static/desk.css"):
-            self.assertEqual(self.browser.ask("GET", path, prefix="")[0].status, 404)
+        for path, host, status in (("/", {"Host": "evil.example"}, 421), ("/", {}, 404), ("/enter", {}, 404), ("/static/desk.css", {}, 404)):
+            answer, _ = self.browser.ask("GET", path, headers=host, prefix="")
+            self.assertEqual((answer.status, answer.headers["Connection"]), (status, "close"), path)
         for path in ("/static/../guard.py", "/static/%2e%2e/guard.py", "/sessions/..%2f..", "/office/copies/..%2f..",
                      "/files/uploaded/x/../../etc.csv", "/nothing", f"/candidates/{10**20}",
                      f"/appeals/{10**20}/D1", f"/clashes/MON-AM/{10**20}"):
@@ -284,6 +285,31 @@ class TestProcess(DeskSchool):
             return "Z" not in pathlib.Path("/proc", process, "stat").read_text("utf-8").rpartition(")")[2].split()[0]
         except OSError:
             return False
+
+    def test_the_connections_of_a_stranger_keep_nobody_out(self):
+        """As many as a browser has at most."""
+        with contextlib.ExitStack() as stack:
+            for _ in range(256):
+                stack.enter_context(socket.create_connection(("127.0.0.1", self.browser.port))).sendall(b"GET / HTTP/1.1\r\n")
+            self.browser.get("/")
+
+    def test_who_looks_through_appeals_keeps_nobody_out(self):
+        """Each appeal's page tries what a grant comes to, one after the other: others have their pages meanwhile."""
+        self.office("lodge", "0001051", "MON-AM", "hall", "PC1", "")
+        self.end()
+        slow = self.write("slow", "")
+        self.environment["EXAMOFFICE"] = self.write("program", (
+            f'#!/bin/sh\ncase "$*" in *" decide "*) while [ -e {slow} ]; do sleep 0.05; done;; esac\n'
+            f'exec {sample.built_program()} "$@"\n'))
+        os.chmod(self.environment["EXAMOFFICE"], 0o700)
+        self.start()
+        with contextlib.ExitStack() as stack:
+            stack.callback(os.remove, slow)
+            for _ in range(12):
+                stack.enter_context(socket.create_connection(("127.0.0.1", self.browser.port))).sendall((
+                    f"GET {self.browser.prefix}/appeals/1051/D1/if-granted HTTP/1.1\r\nHost: 127.0.0.1:{self.browser.port}\r\n"
+                    f"Cookie: {self.browser.cookie}\r\n\r\n").encode())
+            self.browser.get("/candidates")
 
     def test_too_large_an_upload(self):
         with socket.create_connection(("127.0.0.1", self.browser.port)) as connection:

@@ -213,6 +213,10 @@ class TestPrinting(DeskSchool):
         self.assertEqual(self.office("notes"), "")
         self.assertIn("None.", self.browser.words("/candidates/notes"))
         self.browser.post("/candidates/9999999/note", "/candidates/1051", 404, note="x")
+        self.office("notes", self.write("notes.csv", "number,text\n0001051,\u202erest\n"))
+        for given, kept in (("?rest", "\u202erest"), ("rest", "rest")):  # the page has a `?` for what hides in it
+            self.browser.post("/candidates/1051/note", "/candidates/1051", note=given, was="?rest")
+            self.assertEqual(notebook.notes(self.value), {"0001051": kept})
 
     def test_who_was_absent_before_the_day(self):
         page = "/sessions/MON-AM"

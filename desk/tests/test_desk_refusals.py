@@ -110,14 +110,16 @@ class TestRefusals(DeskSchool):
     def test_second_sittings(self):
         for values, said, field in (
                 ({"start": "25:00"}, "a time as", "start"), ({"hall": "no"}, "1 to 8 of A-Z", "hall"),
-                ({"hall": "ZZ"}, "no hall ZZ", "start"), ({"paper": "NO-1"}, "no paper NO-1", "start"),
-                ({"paper": "PH-1"}, "no other paper in TUE-AM", "start"), ({"start": "10:30"}, "until 11:00", "start"),
-                ({"paper": "CS-1", "start": "10:30"}, "no desk in R14 (no computer)", "start"),
+                ({"hall": "ZZ"}, "no hall ZZ", "hall"), ({"paper": "NO-1"}, "no paper NO-1", "paper"),
+                ({"paper": "PH-1"}, "no other paper in TUE-AM", "paper"), ({"start": "10:30"}, "until 11:00", "start"),
+                ({"paper": "CS-1", "start": "10:30"}, "no desk in R14 (no computer)", "hall"),
                 ({"start": "12:30"}, "would sit LAT-2 from 12:30", "start")):
             self.refuse("second", CLASH, {**SECOND, **values}, said, field)
         _, text = self.browser.post("/propose/second-back", PERSON, 422, **WHO, paper="PH-1")
         self.assertIn("no second sitting of PH-1", text)
         self.office("second-sitting", "0001051", "LAT", "11:00", "R14", "--yes")
+        where, _ = self.browser.post("/propose/second", "/candidates/1051", 302, **SECOND)  # the form is there no more
+        self.assertIn("0001051 is not entered for LAT", self.browser.words(where))
         _, text = self.browser.post("/propose/withdraw", PERSON, 422, **WHO, paper="LAT", key="LAT")
         self.assertIn("the entry is withdrawn already", text)
 

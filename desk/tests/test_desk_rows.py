@@ -49,6 +49,15 @@ class TestPapers(Rows):
         self.assertEqual(self.rows("SELECT * FROM paper WHERE code = 'SHORT'"), [("SHORT", "Short <b>", "S2", 90, 0)])
         self.assertIn(f'href="{self.browser.prefix}/sessions/S1"', self.browser.get(page))
 
+    def test_what_hides_in_a_title_stays(self):
+        """The field has a `?` in its place."""
+        self.office("import", "papers", self.write("papers.csv", "paper,title,session,minutes,requires\n"
+                                                   "SHORT,\u05d0\u200f,S1,60,-\n"))
+        self.assertIn('name="title" value="\u05d0?"', self.browser.get("/papers/SHORT"))
+        page, _, _ = self.rehearsed("paper", "/papers/SHORT", **{**self.FORM, "title": "\u05d0?"})
+        self.browser.post(page + "/do", page)
+        self.assertEqual(self.rows("SELECT title, minutes FROM paper WHERE code = 'SHORT'"), [("\u05d0\u200f", 90)])
+
     def test_features_that_it_requires_and_the_form_as_it_was_left(self):
         page, found, words = self.rehearsed("paper", "/papers/SHORT", requires=["computer", "screen"], **self.FORM)
         self.assertEqual(found, {"loses": (1, 1)})
@@ -102,6 +111,14 @@ class TestSessions(Rows):
             self.browser.post(page + "/do", page)
             self.assertEqual(self.rows("SELECT hall, until FROM opening ORDER BY 1"), [("A", until), ("B", until)])
             self.assertEqual(self.seats(), seats)
+
+    def test_halls_that_are_open_in_another_way_meanwhile(self):
+        """They are not closed as the page showed them."""
+        page, _, _ = self.move(date="2027-06-07", start="09:30", along="1")
+        self.office("import", "openings", self.write("openings.csv", "session,hall,desks,until,reserved\nS1,A,1,11:00,no\n"))
+        self.browser.post(page + "/do", page)
+        self.assertIn("go back to the form", self.browser.words(page))
+        self.assertEqual(self.rows("SELECT hall, until FROM opening ORDER BY 1"), [("A", 660), ("B", 600)])
 
     def test_second_sittings_stay(self):
         self.office("import", "sessions", self.write("sessions.csv", "session,date,start\nS1-3,2027-06-07,15:00\n"))

@@ -112,6 +112,7 @@ class TestWhatNeedsAPerson(DeskSchool):
             self.environment["TODAY"] = today
             self.start()
             self.assertEqual(self.line("/", begin), (said, f"/sessions/{said.split(',')[0]}#absent"))
+            self.assertEqual("the office is not served" in self.browser.words("/"), today == "2027-06-08")  # before the end
             self.office("absent", "MON-AM", "--nobody")
 
     def test_the_most_urgent_stands_first(self):

@@ -50,6 +50,15 @@ class Kept(sample.KeptSchool):
         self.assertIn("does not run; `office keep start` begins it", self.refused("keep", "status"))
         self.assertIn("does not run", self.refused("keep", "stop"))
 
+    def test_as_many_days_are_kept_as_somebody_says(self):
+        self.assertEqual(self.run_office("keep", "start", "--days", "0").returncode, 2)
+        self.office("keep", "stop")
+        days = os.path.join(self.desk, "days")
+        os.rename(os.path.join(days, sample.TODAY), os.path.join(days, "2027-04-01"))
+        self.office("keep", "start", str(self.port), "--days", "1")
+        self.office("keep", "stop")
+        self.assertEqual(os.listdir(days), [sample.TODAY])
+
     def test_strangers_and_bad_requests_are_answered_as_by_serve(self):
         self.assertEqual(self.ask(code="WRONG001"), (404, {"error": 6}))
         for request, answer in [(b"GET / HTTP/1.1\r\nHost: a\r\n\r\n", b'{"error":37}'), (b"x" * 9000, b'{"error":34}'),
@@ -211,7 +220,7 @@ class NewDay(sample.SampleSchool):
 
     def test_a_new_day_is_served_with_its_date_and_a_copy_also_where_the_clock_goes_back(self):
         today = mock.Mock(return_value=datetime.date(2027, 5, 1))
-        with mock.patch("exam_desk.keeping.say") as say, mock.patch("exam_desk.copies.MOST_DAYS", 2):
+        with mock.patch("exam_desk.keeping.say") as say:
             asyncio.run(self.days(dataclasses.replace(self.value, today=today), today))
         self.assertEqual(sorted(os.listdir(os.path.join(self.desk, "days"))), ["2027-05-02", "2027-05-03"])
         self.assertEqual([text for call in say.mock_calls if (text := call.args[0]).startswith("the day")],
@@ -219,7 +228,7 @@ class NewDay(sample.SampleSchool):
                           "the day is 2027-05-02 now"])
 
     async def days(self, office, today):
-        keep = keeping.Keep(office, str(sample.free_port()), turns.lock_file(office, "keep.lock"))
+        keep = keeping.Keep(office, str(sample.free_port()), turns.lock_file(office, "keep.lock"), 2)
         served = asyncio.create_task(keep.run())
         for day in (1, 2, 3, 2):
             today.return_value = datetime.date(2027, 5, day)

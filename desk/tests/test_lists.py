@@ -243,6 +243,32 @@ class Lists(sample.SampleSchool):
                 coding.read(text.encode(), "c.csv")
         self.assertEqual(coding.read(b"number,name,code\n0000001,Bo,\n", "c.csv"), [["0000001", "Bo", ""]])
 
+    def codes_in(self, path):
+        with open(path, encoding="utf-8-sig", newline="") as file:
+            return {number: code for number, _, code in csv.reader(file)}
+
+    def test_codes_of_a_file(self):
+        """The file's own stay, then come those of the office; who is named gets another one all the same."""
+        known = self.codes_in(sample.TOP / "examples/candidates.csv")
+        path = self.write("candidates.csv", "number,name,code\n0001051,Di Berg,\n0001068,Ed Costa,\n"
+                                            "0001085,Fi Dahl,ABCDEFGH\n0009999,Bo,\n")
+        self.assertEqual(self.office("codes"),
+                         "candidates-with-codes.csv: 1 code made for 4 rows, 2 filled from the office\n")
+        made = os.path.join(self.folder, "candidates-with-codes.csv")
+        codes = self.codes_in(made)
+        self.assertEqual([codes["0001051"], codes["0001068"], codes["0001085"]],
+                         [known["0001051"], known["0001068"], "ABCDEFGH"])
+        self.assertEqual(stat.S_IMODE(os.stat(made).st_mode), 0o600)
+        self.assertIn("is there already", self.refused("codes", path))
+        self.assertIn("p.csv: 3 codes made for 4 rows, 1 filled from the office\n",
+                      self.office("codes", path, "--output", "p.csv", "--new", "1051", "0001085"))
+        other = self.codes_in(os.path.join(self.folder, "p.csv"))
+        self.assertEqual(other["0001068"], known["0001068"])
+        self.assertFalse({other["0001051"], other["0001085"]} & {*known.values(), *codes.values()})
+        self.assertIn("0001000 is not in", self.refused("codes", path, "--output", "q.csv", "--new", "0001000"))
+        self.assertIn("line 1 must be: number,name,code", self.refused("codes", self.write("bad.csv", "number\n")))
+        self.assertEqual(self.run_office("codes", path, "1051").returncode, 2)
+
     def test_a_lost_code(self):
         """No file with a code is left, twice in a row; the name stays, the old code is told, and the copy has a name."""
         codes = [sample.CODE]
@@ -271,16 +297,35 @@ class Lists(sample.SampleSchool):
                 ("0001221\n", "", "0001221 has no desk and is not listed")]:
             self.assertIn(said, "\n".join(self.faults("TUE-AM", lambda sheet: sheet.replace(old, new))))
 
+    def test_print_session(self):
+        self.change("UPDATE candidate SET name = ? WHERE number = 1493", ["W" * 78 + "\u0085"])
+        self.office("import", "openings", self.write(
+            "openings.csv", "session,hall,desks,until,reserved\nMON-AM,LIB,6,09:01,yes\n"))
+        pages = self.office("print-session", "MON-AM", "--lines", "20").split("\f")
+        self.assertEqual(max(page.count("\n") for page in pages), 20)
+        self.assertEqual(max(len(line) for page in pages for line in page.split("\n")), 76)
+        self.assertRegex("".join(pages), r"(?m)^0001493 .* W+\n {8}W+\?$")
+        heads = [page.split("\n")[0] for page in pages]
+        self.assertIn("DOOR LIST session MON-AM hall GYM  page 2 of 2", heads)
+        self.assertEqual([head for head in heads if "LIB" in head], [])
+        self.assertEqual(heads[-1], "CLASHES session MON-AM")
+        text = self.office("print-session", "MON-PM", "--lines", "999")
+        [hall] = [page for page in text.split("\f") if page.startswith("DOOR LIST session MON-PM hall AULA\n")]
+        self.assertEqual(hall, self.office("door-list", "MON-PM", "AULA"))
+        self.assertIn("no session XX", self.refused("print-session", "XX"))
+        self.assertIn("10 lines", self.refused("print-session", "MON-AM", "--lines", "1"))
+
     def test_a_refused_sheet_prints_nothing(self):
         program = self.write("program", "#!/bin/sh\necho refused 24 >&2\nexit 1\n")
         os.chmod(program, 0o700)
-        self.assertRegex(self.refused("why", "MON-AM", EXAMOFFICE=program), "refused 24.*nothing is printed")
+        for command in ("why", "print-session", "session-page"):
+            self.assertRegex(self.refused(command, "MON-AM", EXAMOFFICE=program), "refused 24.*nothing is printed")
 
     def test_signals_leave_nothing(self):
         slow = self.write("slow", "#!/bin/sh\nsleep 30\n")
         os.chmod(slow, 0o700)
         copies = os.path.join(self.desk, "tmp")
-        for command in ("board", "doors"):
+        for command in ("print-session", "doors"):
             for number in (signal.SIGHUP, signal.SIGINT, signal.SIGTERM):
                 environment = {**self.environment, "EXAMOFFICE": slow}
                 line = [sample.DESK / "office", command, "MON-AM"]

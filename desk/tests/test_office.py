@@ -189,6 +189,18 @@ class Words(sample.SampleSchool):
         self.assertEqual(done.stderr, "line not understood\n  `office --help` lists the commands\n")
         self.assertEqual(done.returncode, 2)
 
+    def test_a_word_too_many_is_shown_without_control_characters(self):
+        """`office check-files *` takes the names of files, whoever gave them."""
+        for words in ["check-files", "a", "\x1b]0;x\x07\n.csv"], ["summary", "--\x9b2J\u202e"]:
+            done = self.run_office(*words)
+            self.assertEqual((done.returncode, done.stdout), (2, ""))
+            self.assertRegex(done.stderr, r"unrecognized arguments: (\?\]0;x\?\?\.csv|--\?2J\?)\n\Z")
+
+    def test_a_command_of_version_1_0_0_that_is_gone_leads_on(self):
+        done = self.run_office("check-shortage", "sheet.txt")
+        self.assertEqual(done.returncode, 2)
+        self.assertIn("  check-shortage is gone: `office why SESSION` adds the printed shortage up\n", done.stderr)
+
     def test_which_word_is_wrong(self):
         for words, *said in ((["withdraw", "0001051", "math1"], "paper 'math1': write MATH1 (1 to 12 of A-Z, 0-9 and -)"),
                              (["withdraw"], "number is missing", "paper is missing"),

@@ -9,13 +9,17 @@ import shutil
 import sqlite3
 import subprocess
 import unittest
+from unittest import mock
 
 import sample
 from cells import Cells
 
 from exam_desk import snapshot  # beside the tests' folder
+from exam_desk.reading import Reading
+from exam_desk.sheets import session_page
 
-PAGES = [["slips"], *([name, "MON-AM"] for name in ("board", "doors", "signatures", "poster", "cards", "chart", "counts"))]
+PAGES = [["slips"], *([name, "MON-AM"] for name in ("board", "doors", "signatures", "poster", "cards", "chart", "counts",
+                                                   "session-page"))]
 LONG = ["W" * 80, "von " * 19 + "Hohe", "\u5c71\u7530" * 13, "e\u0301" * 26, "a" + "\u0335\u0321" * 19]  # of 80 bytes
 # Counts cards whose last line stands below them, texts of cards that are cut, and the heights of a chart's rows.
 LOOK = """<script>
@@ -124,6 +128,23 @@ class Papers(sample.SampleSchool):
         self.assertIn("nobody sits in PC9 in MON-AM; somebody sits in AULA, GYM, LIB, PC1, R12\n",
                       self.refused("doors", "MON-AM", "PC9"))
 
+    def test_session_page(self):
+        self.office("school", "Hill <School>")
+        text = self.office("session-page", "TUE-AM")
+        self.assertEqual(Cells(text).strange, set())
+        for part in ("<p><bdi>Hill &lt;School&gt;</bdi><br>Tuesday, 8 June 2027, starts",
+                     "48 candidates: 46 seated, 2 without a desk.", "<p class=sum>4 candidates = 2 desks + 2 unseated</p>",
+                     "Each of these 4 candidates can sit only in LIB, which has 2 desks.",
+                     self.office("why", "TUE-AM").partition("what could help")[0]):
+            self.assertIn(part, text)
+        self.assertIn("no session XX", self.refused("session-page", "XX"))
+        drawn = []
+        for most in (4, 3):  # four are on the sheet: two sit in LIB, and two have no desk
+            with Reading(self.value) as reading, mock.patch.object(session_page, "MOST_DRAWN", most):
+                text = session_page.Page(reading, "TUE-AM").document().partition("<div class=cards>")[2]
+                drawn.append(re.findall(r"<ol>(.*?)</ol>", text))
+        self.assertEqual([[chips.count("<li>") for chips in lists] for lists in drawn], [[2, 2], [0, 2]])
+
     def test_signatures(self):
         """By desk, without what the invigilators' sheet has besides: no finish, as it tells of extra time."""
         rows, sheet = ([row for row in self.rows(name, "MON-AM", "LIB") if row[0].isdigit()]
@@ -160,7 +181,8 @@ class Papers(sample.SampleSchool):
 
     def test_hostile_names(self):
         self.make_hostile()
-        for words in (["slips", "--codes", "--desks"], ["board", "MON-AM"], ["doors", "MON-AM"], ["counts", "MON-AM"]):
+        for words in (["slips", "--codes", "--desks"], ["board", "MON-AM"], ["doors", "MON-AM"], ["counts", "MON-AM"],
+                      ["session-page", "MON-AM"]):
             text = self.office(*words)
             page = Cells(text)
             self.assertEqual((page.strange, re.findall("[\u0080-\u009f\u202a-\u202e\u2028]", text)), (set(), []), words)
@@ -179,7 +201,7 @@ class Papers(sample.SampleSchool):
             shutil.copy2(whole, self.path)
             self.change(change)
             for words in (["slips", "--codes"], ["board", "MON-AM"], ["doors", "MON-AM"], ["counts", "MON-AM"],
-                          ["changes", whole], ["look", "Berg"], ["summary"]):
+                          ["session-page", "MON-AM"], ["changes", whole], ["look", "Berg"], ["summary"]):
                 done = self.run_office(*words)
                 self.assertNotRegex(done.stdout + done.stderr, "<img>|<script>|[\x80-\x9f]|Traceback")
                 if done.returncode:
@@ -300,6 +322,8 @@ class Papers(sample.SampleSchool):
                           ["Paper, all halls", "Copies", "Last finish"], [named, "1", "13:00"]])
         self.assertIn(f"<p>{named}</p>", re.sub("</?(bdi|small)>", "", self.office("cards", "MON-AM-2")))
         self.assertEqual(self.rows("chart", "MON-AM-2")[1][0], "1Henrik Haddad 0001561 MA-1-2 (MA-1)")
+        self.assertIn(["1", "0001561", "Henrik Haddad", "MA-1-2 (MA-1)"],
+                      [row[:4] for row in self.rows("session-page", "MON-AM-2")])
         slip = self.rows("slips", "--only", "0001561")
         self.assertEqual([row[2] for row in slip[2:4]], ["Latin (LAT)", named])
         letter = csv.DictReader(self.office("slips", "--csv", "--only", "0001561").removeprefix("\ufeff").split("\n"))

@@ -12,7 +12,7 @@ from unittest import mock
 import sample
 
 from exam_desk import appeals, asking  # beside the tests' folder
-from exam_desk.reading import Reading
+from exam_desk.reading import Reading, of_few
 from exam_desk.office import Trouble
 
 KILLED = """
@@ -94,6 +94,35 @@ class Readings(sample.SampleSchool):
         self.assertIn("the program ended 5 times while it was asked", self.refused("doors", "MON-AM"))
         self.environment["EXAMOFFICE"] = os.path.join(self.folder, "nowhere")
         self.assertIn("there is no program", self.refused("doors", "MON-AM"))
+
+
+class Kept(sample.KeptSchool):
+    def test_few_are_asked_of_keep(self):
+        sample.until(lambda: self.state().get("state") == "serving")
+        time.sleep(0.1)
+        with mock.patch.object(asking.Serve, "bodies", side_effect=AssertionError("a `serve` of its own")):
+            member = of_few(self.value, lambda reading: reading.member("MON-AM", sample.NUMBER))
+            self.assertEqual(member.sitting.hall, "PC1")
+            self.assertIn("PC1 Computer room, desk 1", "".join(of_few(self.value, looked)))
+
+    def test_rows_and_answers_are_of_one_moment(self):
+        """An office that changes while it is read is read again."""
+        sample.until(lambda: self.state().get("state") == "serving")
+        seen = []
+
+        def read(reading):
+            if not seen:
+                self.office("withdraw", "0001306", "LAT")
+            seen.append(reading)
+            return reading.member("MON-AM", "0001306").sitting.paper, reading.rows.execute(
+                "SELECT live FROM entry WHERE number = 1306 AND paper = 'LAT'").fetchone()[0]
+        self.assertEqual(of_few(self.value, read), ("MA-2", 0))
+        self.assertEqual(len(seen), 2)
+
+
+def looked(reading):
+    from exam_desk.sheets import texts
+    return texts.asked_lines(reading, sample.NUMBER, False)
 
 
 def is_running(process):

@@ -192,6 +192,8 @@ class Starting(sample.SampleSchool):
             self.assertEqual(json.loads(beside.text_of(self.path, "keep.lock"))["place"], "8080")
         for said in (b'{"pid": 7, "place": "8080", "state": "serve ended: \xc3', b"[1, 2]", b"[" * 1000, b"\xff\x00", b"7"):
             self.assertEqual(turns.said_by(7, said), {"pid": 7})
+        said = b'{"pid": 7, "port": 8080, "state": "serving"}'  # by `keep` of version 1.0.0, which an upgrade leaves
+        self.assertEqual(turns.said_by(7, said), {"pid": 7, "port": 8080, "place": "8080", "state": "serving"})
 
 
 class Closed(sample.SampleSchool):
@@ -386,8 +388,8 @@ class Days(sample.SampleSchool):
         os.chmod(self.desk, 0o700)
         for name in names:
             os.mkdir(os.path.join(days, name), 0o700)
-        with mock.patch("exam_desk.keeping.say"), mock.patch("exam_desk.copies.MOST_DAYS", 2):
-            keeping.Keep.keep_day(mock.Mock(office=self.value, day=self.value.today()))
+        with mock.patch("exam_desk.keeping.say"):
+            keeping.Keep.keep_day(mock.Mock(office=self.value, day=self.value.today(), days=2))
         self.assertEqual(sorted(os.listdir(days)), sorted([*names[2:], sample.TODAY]))
 
 

@@ -12,9 +12,11 @@ from unittest import mock
 import sample
 from cells import Cells
 
-from exam_desk import reasons, telling  # beside the tests' folder
+from exam_desk import telling  # beside the tests' folder
+from exam_desk.facts import session_row
 from exam_desk.reading import Reading
-from exam_desk.sheets import papers, slips, texts
+from exam_desk.sheets import papers, printing, slips, texts
+from exam_desk.sheets.session_page import Page
 from exam_desk.office import Trouble
 
 SESSION, NUMBER, NAME = "MON-AM", "0001153", "Jana Roe"
@@ -28,9 +30,11 @@ class Pages:
     def __init__(self, reading, before):
         self.doors, self.board, self.counts = (papers.page(reading, name, SESSION) for name in ("doors", "board", "counts"))
         self.slips = slips.page(reading, slips.Choice([SESSION], desks=True))
+        page = Page(reading, SESSION)
+        self.page, self.faults = page.document(), page.faults
         self.summary = texts.summary(reading, [SESSION])
-        self.reasons, sheet = reasons.compared(reading, SESSION)
-        self.faults = [*self.reasons.faults(sheet)]
+        self.reasons = page.reasons
+        self.sheets = printing.written(reading, session_row(reading.rows, SESSION))
         self.look = "\n".join(texts.asked_lines(reading, NUMBER, False))
         changes = telling.differences(before, reading)
         self.changes = telling.text(changes)
@@ -51,6 +55,11 @@ class Pages:
 
     def why(self, number=NUMBER):
         return self.reasons.text(number)
+
+    def line(self, *words):
+        """The line of a printed sheet that has the name."""
+        [line] = [line for line in self.sheets[words[0], SESSION, *words[1:]] if NAME in line]
+        return line
 
 
 class StandIns(sample.SampleSchool):
@@ -77,13 +86,18 @@ class StandIns(sample.SampleSchool):
         self.assertEqual(pages.slip(), ["Mon 7 June 2027", "09:00–10:53", "Latin (LAT)|with 25 % extra time, screen",
                                         "Library (LIB), desk\u00a01"])
         self.assertEqual(pages.row("board"), [NAME, "LIB", "1"])
+        self.assertEqual(pages.row("page"), ["1", NUMBER, NAME, "LAT", "10:53"])
+        self.assertEqual(pages.line("door-list", "LIB"), f"   1 {NUMBER} LAT          {NAME}")
+        self.assertEqual(pages.line("attendance", "LAT"), f"{NUMBER} LIB         1 10:53 {NAME}")
         self.assertNotIn(NUMBER, pages.changes)
         self.assertEqual(pages.faults, [])
 
     def test_paper(self):
         pages = self.pages(paper="CS-1")
-        self.assertEqual(pages.row("doors")[3], "CS-1")
+        self.assertEqual((pages.row("doors")[3], pages.row("page")[3]), ("CS-1", "CS-1"))
         self.assertIn("Computer science (CS-1)", pages.slip()[2])
+        self.assertEqual(pages.line("door-list", "LIB"), f"   1 {NUMBER} CS-1         {NAME}")
+        self.assertEqual(pages.line("attendance", "CS-1"), f"{NUMBER} LIB         1 10:53 {NAME}")
         self.assertIn(["Library (LIB)", "Computer science (CS-1)", "1", "10:53", "", ""], pages.count("Library (LIB)"))
         self.assertIn("sits CS-1 until 10:53", pages.why())
         self.assertIn("LAT Latin: not sat, since they sit CS-1 then", pages.look)
@@ -92,9 +106,10 @@ class StandIns(sample.SampleSchool):
 
     def test_finish(self):
         pages = self.pages(finish="23:45")
-        self.assertEqual(pages.row("doors")[4], "23:45")
+        self.assertEqual((pages.row("doors")[4], pages.row("page")[4]), ("23:45", "23:45"))
         self.assertEqual(pages.slip()[1], "09:00–23:45")
         self.assertIn("last finish 23:45", pages.doors)
+        self.assertEqual(pages.line("attendance", "LAT"), f"{NUMBER} LIB         1 23:45 {NAME}")
         self.assertIn(["Library (LIB)", "Latin (LAT)", "1", "23:45", "", ""], pages.count("Library (LIB)"))
         self.assertIn("until 23:45", pages.why())
         self.assertIn("GYM      no screen, closes ", pages.why())
@@ -113,6 +128,7 @@ class StandIns(sample.SampleSchool):
 
     def test_needs_of_who_has_no_desk(self):
         pages = self.pages(UNSEATED, needs="quiet", extra=77)
+        self.assertIn("extra 77, needs computer+quiet\n", pages.page)
         self.assertIn("extra 77, needs computer+quiet", pages.why(UNSEATED))
         self.assertRegex(pages.why(UNSEATED), "PC1      .*no quiet")
 
@@ -127,7 +143,9 @@ class StandIns(sample.SampleSchool):
         self.assertIn("Room 12 (R12)", pages.slip()[3])
         self.assertEqual(pages.row("board")[1], "R12")
         self.assertIn(["Room 12 (R12)", "Latin (LAT)", "1", "10:53", "", ""], pages.count("Room 12 (R12)"))
+        self.assertIn(NAME, pages.page[pages.page.index("id=hall-R12"):pages.page.index("id=clashes")])
         self.assertIn("R12      sits here, at desk 1", pages.why())
+        self.assertEqual(pages.line("door-list", "R12"), f"   1 {NUMBER} LAT          {NAME}")
         self.assertIn("R12 Room 12, desk 1", pages.look)
         self.assertIn("LIB desk 1 -> R12 desk 1", pages.changes)
         self.assertEqual([(row["old hall"], row["hall"], row["hall title"]) for row in pages.csv],
@@ -144,15 +162,22 @@ class StandIns(sample.SampleSchool):
         self.assertIn(f"{NUMBER} has no desk and is not listed", pages.faults)
         self.assertIn(NAME, pages.reasons.text())
         self.assertIn("LIB desk 1 -> no desk", pages.changes)
+        self.assertEqual(pages.line("attendance", "LAT"), f"{NUMBER} -           - 10:53 {NAME}")
 
     def test_desk(self):
         pages = self.pages(desk=77)
-        self.assertEqual((pages.row("doors")[0], pages.row("board")[2]), ("77", "77"))
+        self.assertEqual((pages.row("doors")[0], pages.row("board")[2], pages.row("page")[0]), ("77", "77", "77"))
         self.assertIn("desk\u00a077", pages.slip()[3])
         self.assertIn("sits here, at desk 77", pages.why())
+        self.assertEqual(pages.line("door-list", "LIB"), f"  77 {NUMBER} LAT          {NAME}")
         self.assertIn("LIB Library, desk 77", pages.look)
         self.assertIn("  MON-AM 0001153 Jana Roe: LIB desk 1 -> LIB desk 77\n", pages.changes)
         self.assertEqual([(row["tell"], row["old desk"], row["desk"]) for row in pages.csv], [("no", "1", "77")])
+
+    def test_sheets_that_the_program_prints_otherwise_are_not_printed(self):
+        changed = json.dumps({NUMBER: {SESSION: {"desk": 77}}})
+        said = self.refused("print-session", SESSION, EXAMOFFICE=STAND_IN, REAL=sample.built_program(), CHANGED=changed)
+        self.assertIn(f"the program prints another attendance {SESSION} LAT than its answers give; nothing is", said)
 
     def test_answers_of_another_form(self):
         with self.assertRaisesRegex(Trouble, "the program answered something else than seats"):

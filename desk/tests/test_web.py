@@ -148,7 +148,7 @@ class SampleSchool(unittest.TestCase):
 class Titles(SampleSchool):
     def titles(self, *words):
         return subprocess.run([OFFICE, "titles", *words], env=self.environment, capture_output=True, text=True,
-                              check=False)
+                              check=False, timeout=60)
 
     def kept(self):
         folder = pathlib.Path(self.folder.name)
@@ -204,9 +204,10 @@ class Titles(SampleSchool):
         self.assertFalse(os.path.exists(path))
 
     def test_only_a_file_of_titles_is_written_over(self):
-        """A slip would cost the office, its log, or somebody else's file."""
+        """A slip would cost the office, its log, or somebody else's file; nobody waits for what comes out of a pipe."""
         before = self.kept()
-        for name, content in (("office.db", None), ("page.html", b"<p>"), ("other.json", b'{"sessions": {}}'),
+        os.mkfifo(os.path.join(self.folder.name, "pipe"))
+        for name, content in (("office.db", None), ("pipe", None), ("page.html", b"<p>"), ("other.json", b'{"sessions": {}}'),
                               ("list.json", b"[1]"), ("number.json", b"1"), ("deep.json", b"[" * 100_000)):
             path = os.path.join(self.folder.name, name)
             if content is not None:

@@ -190,6 +190,8 @@ class Columns(unittest.TestCase):
                            ('[halls]\nsheet = { always = "A" }', "sheet: write a header"), ("words = 1", "write a table such"),
                            ("[words.room]\na = 'b'", "room is no column"), ("[words]\nhall = 1", "write a table such"),
                            ("[words.start]\nnoon = 12", "write a table such"),
+                           (f"dates = {'1' * 5000}", "Exceeds the limit"), (f"a{'.a' * 1001} = 1", "1,000 points"),
+                           ("#" * 65537, "more than 65,536 bytes"),
                            ("[words.start]\nnoon = '12'", "'12' is no value of start")):
             with self.subTest(text), self.assertRaises(Trouble) as raised:
                 read_columns("c.toml", text.encode())

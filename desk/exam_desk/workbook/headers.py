@@ -13,6 +13,7 @@ from exam_desk.workbook.cells import Cell, Sheet
 from exam_desk.workbook.values import Way, bare
 
 WITHIN = 20  # rows of a sheet in which its header is looked for
+MOST_COLUMNS, MOST_POINTS = 1 << 16, 1000  # bytes of a file of columns, and points: its reader is slow at a.a.a.a
 KINDS = {name: kind for kind, names in {  # by the name of a sheet, as `folded`
     "sessions": "sessions sittings prüfungstermine termine",
     "papers": "papers exams subjects examinations prüfungen fächer",
@@ -140,7 +141,11 @@ def read_columns(path: str, content: bytes | None = None) -> tuple[dict[str, Giv
     """What a file of columns says, or these bytes of one; raises `Trouble` where it says something else."""
     import tomllib
     try:
-        found = tomllib.loads((files.read(path) if content is None else content).decode("utf-8-sig"))
+        content = files.read(path) if content is None else content
+        if len(content) > MOST_COLUMNS or content.count(b".") > MOST_POINTS:
+            raise Trouble(f"it has more than {MOST_COLUMNS:,} bytes or {MOST_POINTS:,} points: write only the headers and "
+                          "words that your export has")
+        found = tomllib.loads(content.decode("utf-8-sig"))
         words, dates = found.pop("words", {}), found.pop("dates", "")
         given = {kind: given_of(kind, said) for kind, said in found.items()}
         if dates not in ("", "day-first", "month-first"):
@@ -150,7 +155,7 @@ def read_columns(path: str, content: bytes | None = None) -> tuple[dict[str, Giv
         raise Trouble("its letters are no UTF-8: save it as UTF-8", path) from fault
     except AttributeError as fault:
         raise Trouble("words: write a table such as [words.features], with words and what they mean", path) from fault
-    except (tomllib.TOMLDecodeError, RecursionError, Trouble) as fault:
+    except (ValueError, RecursionError, Trouble) as fault:  # a number of 5,000 digits is no TOMLDecodeError
         raise Trouble(str(fault), path) from fault
 
 
