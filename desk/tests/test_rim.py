@@ -188,8 +188,10 @@ class Starting(sample.SampleSchool):
 
     def test_a_long_fault_is_cut_and_a_cut_text_is_none(self):
         with turns.lock_file(self.value, "keep.lock") as lock:
-            keeping.Keep(self.value, "8080", lock).show("\u6f22\"\n" * 1000)
-            self.assertEqual(json.loads(beside.text_of(self.path, "keep.lock"))["place"], "8080")
+            place = os.fsdecode(b"/run/caf\xe9/keep.socket")
+            keeping.Keep(self.value, place, lock).show("\u6f22\"\n" * 1000)
+            lock.seek(0)
+            self.assertEqual(turns.said_by(os.getpid(), lock.read())["place"], place)
         for said in (b'{"pid": 7, "place": "8080", "state": "serve ended: \xc3', b"[1, 2]", b"[" * 1000, b"\xff\x00", b"7"):
             self.assertEqual(turns.said_by(7, said), {"pid": 7})
         said = b'{"pid": 7, "port": 8080, "state": "serving"}'  # by `keep` of version 1.0.0, which an upgrade leaves
