@@ -2,6 +2,7 @@
 `keep` comes back. What needs root is passed over without."""
 import asyncio
 import contextlib
+import fcntl
 import json
 import os
 import shutil
@@ -312,6 +313,11 @@ class Turns(sample.SampleSchool):
 
     def test_a_lock_that_is_not_there_is_free(self):
         self.assertEqual((turns.is_taken(self.value, "want.lock"), beside.text_of(self.path, "want.lock")), (False, ""))
+
+    def test_whoever_looks_takes_nothing_from_another_who_looks(self):
+        with turns.lock_file(self.value, "turn.lock") as one, turns.lock_file(self.value, "turn.lock") as other:
+            self.assertTrue(turns.try_lock(one, fcntl.LOCK_SH))
+            self.assertTrue(turns.is_free(other))
 
     def test_a_command_lets_candidates_go_first(self):
         """No command begins while `keep` holds the lock for candidates who wait; it says behind whom it waits."""
