@@ -11,7 +11,7 @@ import signal
 import sys
 from typing import TYPE_CHECKING, NamedTuple, NoReturn
 
-from exam_desk import beside, typed
+from exam_desk import beside, files, typed
 from exam_desk.office import Office, NoOffice, Trouble
 from exam_desk.words import plain
 
@@ -248,16 +248,17 @@ def program() -> str:
 
 
 def now() -> datetime.datetime:
-    """The date and the time: the clock's, or those of TODAY, which may have no time. Raises `Trouble` where TODAY is no
-    date."""
+    """The date and the time: the clock's, or those of TODAY, which may have no time. Raises `Trouble` where this is no
+    date of an office."""
     import datetime
     clock = datetime.datetime.now()
     given = os.environ.get("TODAY") or clock.date().isoformat()
-    try:
+    with contextlib.suppress(ValueError):
         moment = f"{given}:00" if " " in given else f"{given} {clock:%H:%M:%S}"
-        return datetime.datetime.strptime(moment, "%Y-%m-%d %H:%M:%S")
-    except ValueError:
-        raise Trouble(f"TODAY is {given}; write a date as 2027-05-30") from None
+        found = datetime.datetime.strptime(moment, "%Y-%m-%d %H:%M:%S")
+        if files.FIRST_DAY.year <= found.year <= files.LAST_DAY.year:
+            return found
+    raise Trouble(f"TODAY is {given}; write a date as 2027-05-30, from {files.FIRST_DAY.year} to {files.LAST_DAY.year}")
 
 
 def user() -> str:

@@ -31,10 +31,10 @@ def absent(parser: command.Parser) -> None:
     is_note = bool(given.number or given.there or given.nobody)
     if is_note and given.session is None:
         parser.error("name a session")
+    missing, there = numbers(given.number), numbers(given.there)  # first: who types them may take their time
     with command.reading() as reading:
         if is_note:
-            notebook.note_absent(reading.office, reading, given.session, numbers(given.number), numbers(given.there),
-                                 given.nobody)
+            notebook.note_absent(reading.office, reading, given.session, missing, there, given.nobody)
             codes, noted = [given.session], notebook.absences(reading, given.session)
             text = (f"{lists.count(len(noted.members) if noted else 0, 'candidate')} absent of "
                     f"{len(reading.members(given.session)):,}\n")
@@ -116,7 +116,7 @@ def printed(parser: command.Parser) -> None:
         if given.session and not given.look:
             command.say(f"{on_paper.note(command.office(), reading, given.session)[1]}\n")
         elif given.session:
-            command.say_lines(compared(reading, given.session))
+            command.say_lines(compared(reading, given.session), is_private=True)
         else:
             found = {code: on_paper.compared(reading, code) for code, *_ in facts.sessions(reading.rows)}
             command.say_lines([f"{code}: the papers are " + (

@@ -90,8 +90,8 @@ def name(parser: command.Parser) -> command.Plan:
     from commands import programs
     from exam_desk import coding
     given = command.given(parser, "number", "name")
-    step = coding.other_rows(command.office(), [given.number], given.name)
-    return programs.Change(steps=[step], title=f"name {given.number}")
+    step, state = coding.other_rows(command.office(), [given.number], given.name)
+    return programs.Change(steps=[step], title=f"name {given.number}", made_for=state)
 
 
 @command.named("""Lets a candidate with two papers at once sit one of them later: second-sitting NUMBER PAPER START HALL
@@ -136,7 +136,11 @@ def what_if(parser: command.Parser) -> int:
     words = command.given_as_typed(parser, "COMMAND ..")
     own = {name: each for name, each in command.COMMANDS.items() if each.changes}
     name = "".join(words[:1])
-    plan = own[name].run(command.parser_of(name, words[1:])) if name in own else programs.of_program([name, *words[1:]])
+    values, asks_help = programs.as_typed([name, *words[1:]])
+    if name in programs.CHANGES and asks_help:
+        return programs.run(command.office(), words)
+    plan = (own[name].run(command.parser_of(name, words[1:])) if name in own else
+            programs.of_program(values))
     if not isinstance(plan, programs.Change):
         why = f"`office {name}` changes no seat; " if name else ""
         raise Trouble(f"{why}name a command that does: {', '.join(sorted([*own, *programs.CHANGES]))}")

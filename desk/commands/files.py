@@ -49,7 +49,7 @@ def read_source(office: Office, given: Namespace) -> Job:
         reading.read_book(opening.open_book(given.source, given.encoding), job, command.progress)
     if getattr(given, "codes", False):
         from exam_desk import coding
-        coding.add_codes(office, job)
+        coding.add_codes(job)
     command.progress("")
     command.say_lines(line.whole() for line in (job.lines if given.all else tables.together(job.lines)))
     return job
@@ -144,8 +144,8 @@ def codes(parser: command.Parser) -> command.Plan:
     parser.add_argument("--output", metavar="FILE", help="the new file, CANDIDATES-with-codes.csv if not given")
     given = parser.parse_args()
     if given.words and typed.is_right("number", given.words[0]):
-        step = coding.other_rows(command.existing_office(), given.words)
-        return programs.Change(steps=[step], title=" ".join(["codes", *given.words]))
+        step, state = coding.other_rows(command.office(), given.words)
+        return programs.Change(steps=[step], title=" ".join(["codes", *given.words]), made_for=state)
     path, *more = given.words or ["candidates.csv"]
     if more:
         parser.error("name one file, or numbers alone")

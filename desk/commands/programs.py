@@ -1,7 +1,6 @@
 """What `office` does for a command of the program, and for each command that changes the office: that gives a plan,
 which `what-if` rehearses, and `office` carries out."""
 import contextlib
-import itertools
 import os
 import subprocess
 import sys
@@ -46,13 +45,14 @@ class Change:
     most: int | None = MOST_NAMED  # of those whom it meets in one way, who are named behind a rehearsal
     is_over: Callable[[list[Answered]], object] = changing.refused_of  # whether a rehearsal ends behind these answers
     own: Callable[[Reading, Reading], Sequence[object]] | None = None  # what it says itself of both offices
+    made_for: str = ""  # the name of the state that the steps were made for, where they are for no other
 
     def said(self, rehearsal: Rehearsal) -> int:
         """Prints what came of the steps in a rehearsal; the status."""
         return said(*rehearsal.answers[0])
 
     def __call__(self) -> int:
-        carried = changing.carry_out(command.office(), self.steps, title=self.title)
+        carried = changing.carry_out(command.office(), self.steps, self.made_for or None, title=self.title)
         status = said(*carried.answers[0])
         if self.steps[0].words[0] != MIGRATE:
             command.tell_consequences(carried.copy)
@@ -63,11 +63,8 @@ class Change:
 class Asked(Change):
     """Steps of the program, whole or not at all, behind a rehearsal and a question."""
     is_agreed: bool  # so that nobody is asked
-    made_for: str = ""  # the name of the state that the steps were made for, where they are for no other
 
     def said(self, rehearsal: Rehearsal) -> int:
-        if self.made_for and self.made_for != snapshot.name_now(rehearsal.office, rehearsal.before):
-            raise Stale("the office changed meanwhile, so nothing is changed: give the command again")
         if not self.own:
             command.say_lines(f"{each.step.words[-1]}: {each.first_line()}" for each in rehearsal.answers
                               if each.ran.status == 0)
@@ -79,7 +76,7 @@ class Asked(Change):
             made_from, promised = (snapshot.name_now(rehearsal.office, path)
                                    for path in (rehearsal.before, rehearsal.after))
             if made_from == promised:
-                print("the office has all this already: nothing is changed")
+                put("the office has all this already: nothing is changed\n")
                 return 0
             if not self.is_agreed:
                 command.ask("do this?")
@@ -87,7 +84,7 @@ class Asked(Change):
                                          command.progress)
         command.progress("")
         refuse(carried.answers)
-        print("done; `office changes 1` says who must be told, `office back 1` takes it back")
+        put("done; `office changes 1` says who must be told, `office back 1` takes it back\n")
         if carried.as_promised is False:
             command.warn("the office is not as the trial said: look with `office changes 1`")
         return 0
@@ -101,7 +98,7 @@ class List(Change):
 
     def said(self, rehearsal: Rehearsal) -> int:
         statuses = [*map(self.said_of_row, self.rows, rehearsal.answers)]
-        print(f"{statuses.count(0)} of {lists.count(len(self.rows), 'row')} would be done")
+        put(f"{statuses.count(0)} of {lists.count(len(self.rows), 'row')} would be done\n")
         return int(statuses.count(0) < len(self.rows))
 
     def __call__(self) -> int:
@@ -170,6 +167,8 @@ def rehearsed(change: Change) -> Iterator[tuple[int, Rehearsal]]:
     `migrate` nobody here can read the tables."""
     with changing.rehearse(command.office(), change.steps, command.progress, change.copy, change.is_over) as rehearsal:
         command.progress("")
+        if change.made_for and change.made_for != snapshot.name_now(rehearsal.office, rehearsal.before):
+            raise Stale("the office changed meanwhile, so nothing is changed: give the command again")
         status = change.said(rehearsal)
         done = {each.step.words[0] for each in rehearsal.answers if each.ran.status == 0}
         if change.copy or done - {MIGRATE}:
@@ -181,7 +180,8 @@ def rehearsed(change: Change) -> Iterator[tuple[int, Rehearsal]]:
 
 def run(office: Office, words: list[str]) -> int:
     """Runs a command of the program; the status."""
-    if not {"-h", "--help"}.isdisjoint(itertools.takewhile(lambda word: word != "--", words)):
+    words, asks_help = as_typed(words)
+    if asks_help:
         found = running.help_text(office, words[0])
         command.say(found + HELP.get(words[0], "").format(words[0]))
         return 0 if found else said(Step(tuple(words)), Ran(2, "", "line not understood\n"))
@@ -194,6 +194,13 @@ def run(office: Office, words: list[str]) -> int:
     if change := of_program(words):
         return change()
     return said(Step(tuple(words)), dispatch(office, words))
+
+
+def as_typed(words: list[str]) -> tuple[list[str], bool]:
+    """The words without the first `--`, and whether one before it asks for help; what is behind it may begin with `-`.
+    """
+    place = words.index("--") if "--" in words else len(words)
+    return words[:place] + words[place + 1:], not {"-h", "--help"}.isdisjoint(words[:place])
 
 
 def dispatch(office: Office, words: list[str]) -> Ran:
@@ -239,13 +246,12 @@ def of_program(words: list[str]) -> Change | None:
         case ["withdraw", number, "--all"]:
             rows = listed.of_candidate(command.office(), number)
             return List(steps=[*rows.values()], title=f"withdraw {rows[1].words[1]} --all", rows=rows)
-        case ["decide", *_, _, _, _, "-"]:
+        case ["decide", _, _, _, "-"]:
             words = command.with_reason(words)
     if words[0] not in CHANGES:
         return None
-    first = 2 if words[1:2] == ["--"] else 1
     if words[0] in NUMBERED:
-        words = [*words[:first], *map(typed.number, words[first:first + 1]), *words[first + 1:]]
+        words = [words[0], *map(typed.number, words[1:2]), *words[2:]]
     _, path = refusals.imported(words) or ("", "")
     data = None
     with contextlib.suppress(OSError):  # the program says so of an import
@@ -301,6 +307,6 @@ def usage(name: str, *words: str) -> list[str]:
     if not text:
         gone = [f"  {name} is gone: {GONE[name]}"] if name in GONE else []
         return [*gone, "  `office --help` lists the commands"]
-    wrong = typed.wrong(running.takes(text), [word for word in words if word != "--"])
+    wrong = typed.wrong(running.takes(text), words)
     more = [f"`office {name} --help` has other forms"] if name in HELP else []
     return [f"  {line}" for line in [*wrong, *[line for line in text.split("\n") if line][1:], *more]]

@@ -14,6 +14,7 @@ import contextlib
 import functools
 import itertools
 import os
+import signal
 import sqlite3
 import time
 from collections.abc import Callable, Iterable, Iterator, Sequence
@@ -123,7 +124,7 @@ def rehearse(office: Office, steps: Sequence[Step], tell: Tell = lambda title: N
             source = before if copy is None else copies.file_in(office, copy)  # both are of one moment
             after = stack.enter_context(private.private_copy(source, office.path))
         except OSError as fault:
-            raise Trouble(fault.strerror or str(fault), fault.filename or office.path) from fault
+            raise snapshot.unreadable(fault.filename or office.path, fault) from fault
         if copy is not None:
             copies.check(office, after)
             running.run_over(office, after, "migrate")
@@ -147,42 +148,36 @@ def carry_out(office: Office, steps: Sequence[Step], made_from: str | None = Non
     if not os.path.isfile(office.path):  # the program says so
         ran = running.run_over(office, office.path, *steps[0].words, data=steps[0].data)
         return Carried([Answered(steps[0], ran)], None, None)
-    title = title or ", ".join(step.title() for step in steps)
-    with unchanged(office), turn(office, title, made_from) as lock, copied(office, title) as copy:
+    shown = title or ", ".join(step.title() for step in steps)
+    with unchanged(office), turn(office, shown, made_from) as lock, copied(office, shown) as copy:
         if len(steps) == 1:
             tell(steps[0].title())
-            answers = [carried(office, lock, steps[0], logbook.BEGINS, copy)]
-            is_undone = has_done_nothing(office, answers[0], copy)
+            answers = [carried(office, lock, steps[0], logbook.BEGINS, copy, title)]
+            complaint = answers[0].ran.complaint
+            if (complaint.startswith(("refused", "file fault"))
+                    and refusals.number_of(complaint) not in refusals.MAYBE_DONE):  # then the bytes tell
+                copies.drop(copy)
         else:
-            answers = carried_all(office, lock, title, steps, copy, tell)
-            is_undone = refused_of(answers) is not None
-        if is_undone:
-            copies.drop(copy)
-        elif any((refusals.imported(step.words) or "-")[0] in titles.KINDS for step in steps):
+            answers = carried_all(office, lock, shown, steps, copy, tell)
+        if any((refusals.imported(step.words) or "-")[0] in titles.KINDS for step in steps):
             titles.renew(office)
-        as_promised = None if promised is None or is_undone else state_of(office) == promised
+        as_promised = None if promised is None else state_of(office) == promised
         return Carried(answers, copies.kept_if_other(office, copy), as_promised)
 
 
 @contextlib.contextmanager
-def copied(office: Office, title: str) -> Iterator[str]:
-    """A copy from before a change. Where a fault or a signal ends the change before it has done anything, it goes."""
-    copy = copies.keep_copy(office, title)
+def copied(office: Office, title: str, used: str = "") -> Iterator[str]:
+    """A copy from before a change, which may use another. Where a fault or a signal ends the change before it has done
+    anything, the new one goes."""
+    copy = copies.keep_copy(office, title, used)
     try:
         yield copy
-    except (OSError, sqlite3.Error, running.NotStarted, SystemExit) as fault:
+    except BaseException as fault:
         is_kept = copies.kept_if_other(office, copy)
         if isinstance(fault, SystemExit):  # a signal
             office.warn("stopped: look whether it is done; `office back 1` takes it back then" if is_kept else
                         "stopped: nothing is changed")
         raise
-
-
-def has_done_nothing(office: Office, answered: Answered, copy: str) -> bool:
-    """Whether the program says that it did nothing; after 22 and 23 the step may be there all the same."""
-    if answered.ran.status != 2 and not answered.ran.complaint.startswith(("refused", "file fault")):
-        return False
-    return refusals.number_of(answered.ran.complaint) not in refusals.MAYBE_DONE or copies.is_as_now(office, copy)
 
 
 @contextlib.contextmanager
@@ -206,7 +201,7 @@ def unchanged(office: Office) -> Iterator[None]:
         yield
     except OSError as fault:
         place = fault.filename or beside.folder(office.path)
-        raise Trouble(f"no copy of the office can be kept, so nothing is changed: {place}: {fault.strerror}"
+        raise Trouble(f"nothing can be kept beside the office, so nothing is changed: {place}: {fault.strerror}"
                       f"{beside.room(office.path, fault)}") from fault
     except sqlite3.Error as fault:
         raise Trouble(f"{office.path} cannot be read, so nothing is changed: {fault}; `office check` says more"
@@ -227,10 +222,12 @@ def run_patiently(office: Office, step: Step, lock: FileIO | None = None, copy: 
         time.sleep(PAUSE)
 
 
-def carried(office: Office, lock: FileIO, step: Step, status: str, copy: str = "") -> Answered:
+def carried(office: Office, lock: FileIO, step: Step, status: str, copy: str = "", title: str = "") -> Answered:
     """Carries out one step with the office alone, which the program does whole or not at all; `status` begins its line
-    in the log, which can name a copy. Raises OSError where nothing can be written there, and nothing is done."""
-    with logbook.logged(office, [*step.words, *step.about], status, os.path.basename(copy)) as outcome:
+    in the log, which can have another title, and name a copy. Raises OSError where nothing can be written there, and
+    nothing is done."""
+    words = [title] if title else [*step.words, *step.about]
+    with logbook.logged(office, words, status, os.path.basename(copy)) as outcome:
         answered = Answered(step, run_patiently(office, step, lock, copy))
         outcome.status, outcome.answer = answered.ran.status, answered.first_line()
     return answered
@@ -242,28 +239,28 @@ def carried_all(office: Office, lock: FileIO, title: str, steps: Sequence[Step],
     answers: list[Answered] = []
     with (copies.ready(office, copy) as ready,  # it can be moved in when the disk is full
           logbook.logged(office, [title], answer=os.path.basename(copy)) as outcome):
+        outcome.answer = "stopped"
         try:
             for step in steps:
                 tell(step.title())
                 answers.append(carried(office, lock, step, logbook.STEP))
-                if refused_of(answers):
+                if refused := refused_of(answers):
+                    outcome.status = refused.ran.status
+                    outcome.answer = f"{refused.step.title()}: {refused.first_line()}"
                     break
-        except BaseException:
-            restore(office, ready, copy, outcome, "stopped")
-            copies.drop(copy)
-            raise
-        if refused := refused_of(answers):
-            restore(office, ready, copy, outcome, f"{refused.step.title()}: {refused.first_line()}")
-            outcome.status = refused.ran.status
-        else:
-            outcome.status, outcome.answer = 0, f"{len(answers)} steps"
+            else:
+                outcome.status, outcome.answer = 0, f"{len(answers)} steps"
+        finally:
+            if outcome.status:
+                restore(office, ready, copy, outcome)
     return answers
 
 
 def go_back(office: Office, words: Sequence[str], copy: str, may_go: Callable[[list[Said]], bool],
             made_from: str | None = None) -> Back:
     """Puts a copy in the place of the office, in one turn, where `may_go` agrees to the appeals and decisions that this
-    takes away. Raises as `turn`, and `Trouble` where the copy is gone or no good office."""
+    takes away. Both are on the disk at each moment. Where no office was, a backup brings its notebook. Raises as
+    `turn`, and `Trouble` where the copy is gone or no good office."""
     with contextlib.ExitStack() as stack:
         with unchanged(office):
             stack.enter_context(turn(office, " ".join(words), made_from))
@@ -272,11 +269,31 @@ def go_back(office: Office, words: Sequence[str], copy: str, may_go: Callable[[l
             lines = copies.losses(office, copy)
             if not may_go(lines):
                 return Back(False, lines, None)
-            outcome = stack.enter_context(logbook.logged(office, words))
-        kept = copies.put_back(office, copy)
-        titles.renew(office)
-        outcome.status, outcome.answer = 0, "; ".join([copies.state_of(copy), *map(str, lines)])
-    return Back(True, lines, kept)
+        with private.private_copy(copies.file_in(office, copy), office.path) as path:
+            copies.check(office, path)
+        with unchanged(office):
+            path, kept = stack.enter_context(copies.ready(office, copy)), ""
+            if os.path.exists(os.path.realpath(office.path)):
+                kept = stack.enter_context(copied(office, copies.title_of_back(copy), copy))
+            elif copies.is_brought(copy):
+                with contextlib.suppress(OSError):  # it has none, or one is here already
+                    os.rename(os.path.join(copy, notebook.PLACE), beside.folder(office.path, notebook.PLACE))
+            outcome = stack.enter_context(logbook.logged(office, words, answer=os.path.basename(kept)))
+        with whole():
+            copies.move_in(office, path)
+            outcome.status, outcome.answer = 0, "; ".join([copies.state_of(copy), *map(str, lines)])
+            titles.renew(office)
+    return Back(True, lines, kept or None)
+
+
+@contextlib.contextmanager
+def whole() -> Iterator[None]:
+    """Signals that end a command wait until this is done."""
+    held = signal.pthread_sigmask(signal.SIG_BLOCK, [signal.SIGHUP, signal.SIGINT, signal.SIGTERM])
+    try:
+        yield
+    finally:
+        signal.pthread_sigmask(signal.SIG_SETMASK, held)
 
 
 def state_of(office: Office) -> str:
@@ -286,15 +303,16 @@ def state_of(office: Office) -> str:
     return ""
 
 
-def restore(office: Office, ready: str, copy: str, outcome: logbook.Outcome, why: str) -> None:
-    """Puts the copy back in the turn in which it was made; the log says why, and that all is as before once it is."""
-    outcome.answer = why
+def restore(office: Office, ready: str, copy: str, outcome: logbook.Outcome) -> None:
+    """Puts the copy back in the turn in which it was made, and it goes; once that is done the log says so."""
     try:
-        copies.move_in(office, ready)
+        with whole():
+            copies.move_in(office, ready)
+            outcome.answer = f"all is as before: {outcome.answer}"
+            copies.drop(copy)
     except OSError as fault:
         raise Trouble(f"a step failed, and the office could not be put back as it was ({fault.strerror}): "
                       f"{way_back(copy)}") from fault
-    outcome.answer = f"all is as before: {why}"
 
 
 def way_back(copy: str) -> str:

@@ -2,12 +2,11 @@
 imports of what was read from a workbook, or from a folder of import files."""
 from __future__ import annotations
 
-import os
 import secrets
 from collections.abc import Mapping
 from typing import TYPE_CHECKING
 
-from exam_desk import facts, files, lists, mistakes, snapshot
+from exam_desk import files, lists, mistakes, snapshot
 from exam_desk.changing import Step
 from exam_desk.office import Office, NoCandidate, Trouble
 
@@ -15,14 +14,6 @@ if TYPE_CHECKING:
     from exam_desk.workbook.tables import Job
 
 LETTERS, DIGITS, LENGTH = "BCDFGHJKMNPQRSTVWXYZ", "23456789", 10
-
-
-def in_office(office: Office) -> dict[str, str]:
-    """The access codes of the office, by number; none where there is no office yet."""
-    if not os.path.exists(office.path):
-        return {}
-    with snapshot.rows(office) as connection:
-        return facts.access_codes(connection)
 
 
 def read(text: bytes, path: str) -> list[list[str]]:
@@ -67,11 +58,12 @@ def coded(office: Office, path: str, new: list[str]) -> tuple[list[list[str]], i
     return found, made, sum(not code and number in known for number, _, code in empty)
 
 
-def other_rows(office: Office, numbers: list[str], name: str | None = None) -> Step:
-    """The import of candidates with another name and the same code, or without a name with another code. Raises
-    `Trouble` where nobody has a number, or it is no name."""
+def other_rows(office: Office, numbers: list[str], name: str | None = None) -> tuple[Step, str]:
+    """The import of candidates with another name and the same code, or without a name with another code; and the name
+    of the state that it is for. Raises `Trouble` where nobody has a number, or it is no name."""
     with snapshot.rows(office) as connection:
         rows = {row[0]: row for row in files.rows_of(connection, "candidates")}
+        state = snapshot.name_of(connection)
     if missing := [number for number in numbers if number not in rows]:
         raise NoCandidate(missing[0])
     if name is not None and not files.is_name(name.encode("utf-8", "surrogateescape")):
@@ -80,17 +72,19 @@ def other_rows(office: Office, numbers: list[str], name: str | None = None) -> S
     changed = [[number, rows[number][1], new_code(taken)] if name is None else [number, name, rows[number][2]]
                for number in dict.fromkeys(numbers)]
     title = f"{'name' if name is not None else 'code'} of {', '.join(numbers)}"
-    return Step(("import", "candidates", title), files.file_of("candidates", changed))
+    return Step(("import", "candidates", title), files.file_of("candidates", changed)), state
 
 
-def add_codes(office: Office, job: Job) -> None:
-    """Gives each candidate who was read without a code one: that of the office for the number, else a new one."""
-    records = job.records.get("candidates", [])
-    rows, made = filled([record.fields for record in records], in_office(office))
-    job.records["candidates"] = [record._replace(fields=row) for record, row in zip(records, rows)]
+def add_codes(job: Job) -> None:
+    """Gives each candidate who was read without a code a new one, where no line is a mistake."""
     job.lines = [line for line in job.lines if line.what != mistakes.NO_CODE]
-    if made and not job.count("mistake"):
-        job.change(f"{lists.count(made, 'access code')} made")
+    if not job.count("mistake"):
+        records = job.records.get("candidates", [])
+        known = {number.decode(): code.decode() for number, code in job.known.codes.items() if code}
+        rows, made = filled([record.fields for record in records], known)
+        job.records["candidates"] = [record._replace(fields=row) for record, row in zip(records, rows)]
+        if made:
+            job.change(f"{lists.count(made, 'access code')} made")
 
 
 def steps_of(job: Job) -> list[Step]:

@@ -211,25 +211,10 @@ def move_in(office: Office, path: str) -> None:
     beside.sync(os.path.dirname(place))
 
 
-def put_back(office: Office, copy: str) -> str | None:
-    """Puts a copy in the place of the office, with the office alone; both are on the disk at each moment. The copy of
-    what was there, None where nothing was: then a backup brings its notebook. `Trouble` where it is no good office."""
-    with ready(office, copy) as path:
-        check(office, path)
-        kept: str | None = None
-        when, what = when_and_what(copy)
-        if os.path.exists(os.path.realpath(office.path)):
-            kept = keep_copy(office, f"{BACK}{what if is_brought(copy) else when}", copy)
-        elif is_brought(copy):
-            with contextlib.suppress(OSError):  # it has none, or one is here already
-                os.rename(os.path.join(copy, notebook.PLACE), beside.folder(office.path, notebook.PLACE))
-        try:
-            move_in(office, path)
-        except OSError:
-            if kept:
-                kept_if_other(office, kept)
-            raise
-    return kept
+def title_of_back(copy: str) -> str:
+    """Before what a copy of now is made where this one is put in its place."""
+    when, what = when_and_what(copy)
+    return f"{BACK}{what if is_brought(copy) else when}"
 
 
 def losses(office: Office, copy: str) -> list[Said]:

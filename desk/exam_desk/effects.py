@@ -1,8 +1,9 @@
 """What a change does to candidates, sessions and papers: from two readings of an office, before and after it; then, in
 short, in lines for a terminal."""
 import functools
+import itertools
 import sqlite3
-from collections import Counter
+from collections import Counter, defaultdict
 from collections.abc import Iterable, Iterator, Mapping
 from typing import NamedTuple
 
@@ -19,6 +20,9 @@ FIGURES = ("SELECT code, coalesce(entered, 0), coalesce(seated, 0) FROM session 
            "JOIN paper ON paper.code = paper WHERE live = 1 GROUP BY session) USING (code) "
            "LEFT JOIN (SELECT session AS code, count(*) AS seated FROM seat GROUP BY session) USING (code) "
            "ORDER BY day, start, code")
+NO_SEAT = ("SELECT session, number FROM entry JOIN paper ON code = paper WHERE live = 1 "
+           "EXCEPT SELECT session, number FROM seat")
+UNSEATED = ("without a desk", "without a desk")
 OVER, CLASHES, TWICE, HALLS, PRINTED, CODES = "over", "clashes", "twice", "halls", "printed", "codes"
 OF_PLACES = [OVER, HALLS, PRINTED]  # kinds of which sessions and halls are counted, and not people
 COUNTED = ["gets", "leaves", "joins", "desk"]  # not named where the others are listed with what becomes of them
@@ -86,13 +90,12 @@ class Effects:
 
     def without_a_desk(self, most: int | None = MOST_NAMED) -> list[str]:
         """A line on the sessions in which more or fewer have no desk than before, those with the most first."""
-        was, now = ({code: people - seats for code, (people, seats) in figures(reading).items()}
-                    for reading in (self.before, self.after))
-        others = {code: now[code] for code in self.touched if code in now and now[code] != was.get(code, 0)}
-        shown = [f"{others[code]:,} in {code}" + (f" (before {was[code]:,})" if was.get(code) else "")
-                 for code in sorted(others, key=others.__getitem__, reverse=True)]
-        total = sum(others.values())
-        return [f"{total:,} without a desk: {few(shown, most or len(shown))}"] if total else []
+        was, now = unseated(self.before), unseated(self.after)
+        others = {code: now[code] for code in self.touched if len(now[code]) != len(was[code])}
+        shown = [f"{len(others[code]):,} in {code}" + (f" (before {len(was[code]):,})" if was[code] else "")
+                 for code in sorted(others, key=lambda code: len(others[code]), reverse=True)]
+        who = [*itertools.chain(*others.values())]
+        return [f"{counted(UNSEATED, who)}: {few(shown, most or len(shown))}"] if who else []
 
     def notes(self) -> list[str]:
         """How it is noted that somebody did not come, where the change takes somebody out of a session on its day or
@@ -126,8 +129,7 @@ def out_of_date(before: Reading, after: Reading, session: str) -> on_paper.Paper
         return {}
     asked = [(reading, facts.entered(reading.rows, session)) for reading in (before, after)]
     then, now = (on_paper.lines_of(reading, session, reading.members(session, numbers)) for reading, numbers in asked)
-    moves = [move._replace(printed=paper.lines.get(move.number)) for move in on_paper.moves(then, now)
-             if move.now != paper.lines.get(move.number)]
+    moves = (move._replace(printed=paper.lines.get(move.number)) for move in on_paper.moves(then, now))
     was, shared = (on_paper.shared(reading, session) for reading in (before, after))
     others = (other for other in on_paper.others(paper.shared, shared) if was.get(other[0]) != other[2])
     return on_paper.out_of_date(after.office, moves, others, paper.lines)
@@ -158,6 +160,14 @@ def figures(reading: Reading) -> dict[str, tuple[int, int]]:
     return {code: (entered, seated) for code, entered, seated in reading.rows.execute(FIGURES)}
 
 
+def unseated(reading: Reading) -> dict[str, list[int]]:
+    """The numbers of those who are entered and have no seat, by session."""
+    found: dict[str, list[int]] = defaultdict(list)
+    for code, number in reading.rows.execute(NO_SEAT):
+        found[code].append(number)
+    return found
+
+
 def has_seats(reading: Reading) -> bool:
     return reading.rows.execute("SELECT 1 FROM seat LIMIT 1").fetchone() is not None
 
@@ -172,17 +182,24 @@ def between(before: Reading, after: Reading, at_most: int | None) -> list[str]:
 def done(office: Office, copy: str, progress: Progress) -> list[str]:
     """What a change did that is carried out, in a few lines, from the copy of before and from the office as it is now.
     Where that cannot be worked out, a line says so."""
+    place = 1
     try:
         with (Reading(office, copies.file_in(office, copy), progress) as before,
               Reading(office, None, progress) as after):
-            if copies.listed(office)[:1] != [copy]:
+            if (place := place_of(office, copy)) != 1:
                 raise Trouble("the office has changed again meanwhile")
             effects = Effects(before, after)
             shown = headlines(effects.met)
-            return effects.said(shown, listing(effects.met, copies.listed(office).index(copy) + 1), MOST_NAMED)
+            return effects.said(shown, listing(effects.met, place_of(office, copy)), MOST_NAMED)
     except (Trouble, OSError, sqlite3.Error, MemoryError) as fault:
         reason = plain(str(fault)) or "there is no memory"
-        return [f"the change is done, but nobody can say what it did to candidates: {reason}; try `office changes 1`"]
+        return [f"the change is done, but nobody can say what it did to candidates: {reason}; try `office changes "
+                f"{place}`"]
+
+
+def place_of(office: Office, copy: str) -> int:
+    """The number of a copy in `office back`."""
+    return [*copies.listed(office), copy].index(copy) + 1
 
 
 def on_old_paper(papers: Mapping[str, on_paper.Papers]) -> list[Met]:

@@ -230,7 +230,7 @@ def keep(office: Office, name: str, change: Callable[[Any], object]) -> tuple[An
             files.put(path + NEW, json.dumps(now, indent=0).encode("ascii"))
             beside.sync(path + NEW)
             os.rename(path + NEW, path)
-            beside.sync(os.path.dirname(path))
+        beside.sync(os.path.dirname(path))
     return before, now
 
 

@@ -153,10 +153,12 @@ def others(before: Mapping[str, str], now: Mapping[str, str]) -> list[Other]:
 
 
 def otherwise(office: Office) -> dict[str, Papers]:
-    """By session the printed papers that have other notes, rows of desks or another name of the school than is kept."""
+    """By session that is not over the printed papers that have other notes, rows of desks or another name of the school
+    than is kept."""
     notes, common, found = notebook.notes(office), of_notebook(office), dict[str, Papers]()
     for code in notebook.sessions_with(office, "printed"):
         lines, then = noted(office, code)
+        lines = {number: line for number, line in lines.items() if not (line.date and office.is_over(line.date))}
         now = {number: line._replace(note=sum_of(notes.get(number, ""))) for number, line in lines.items()}
         found[code] = out_of_date(office, moves(lines, now), others(then, common), lines)
     return {code: papers for code, papers in found.items() if papers}
@@ -178,7 +180,7 @@ def compared(reading: Reading, session: str) -> Compared | None:
     """What was noted beside what is so now; None where nothing was. Raises `Trouble` where there is no such session."""
     facts.session_row(reading.rows, session)
     lines, then = noted(reading.office, session)
-    if not lines:
+    if not (lines or then):
         return None
     now = lines_of(reading, session, reading.members(session))
     moved, common = moves(lines, now, facts.candidate_names(reading.rows)), others(then, shared(reading, session))

@@ -176,7 +176,7 @@ class Reading(contextlib.AbstractContextManager["Reading"]):
         Split the lines by split("\\n"): a name may hold other separators of lines.
         """
         with self.printing:
-            done = running.run_over(self.office, self.copy, name, "--", *values)
+            done = running.run_over(self.office, self.copy, name, *values)
         if done.status != 0:
             complaint = done.complaint.split("\n")[0] or f"status {done.status}"
             self.refuse_rows(complaint)

@@ -84,8 +84,7 @@ def explained(office: Office, words: Sequence[str], complaint: str, data: bytes 
 
 def imported(words: Sequence[str]) -> tuple[str, str] | None:
     """The kind and the file of an import; None of other commands."""
-    values = [word for word in words[1:] if word != "--"]
-    return (values[0], values[1]) if words[0] == "import" and len(values) == 2 and values[0] in files.HEADERS else None
+    return (words[1], words[2]) if words[0] == "import" and len(words) == 3 and words[1] in files.HEADERS else None
 
 
 def mistakes_of(office: Office, words: Sequence[str], data: bytes | None, is_done: bool) -> list[str]:
@@ -118,4 +117,4 @@ def patience(office: Office) -> int:
     """For how many seconds waiting may help: another command has the file, and no `serve`. Where none is to be seen it
     may have ended just now; more often the file itself is wrong, and stays so."""
     has_it = holder(office)
-    return 0 if re.search(r"\bserve\b", has_it) else turns.PATIENCE if has_it else 1
+    return 0 if " serve " in has_it else turns.PATIENCE if has_it else 1

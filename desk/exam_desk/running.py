@@ -61,6 +61,8 @@ def run_over(office: Office, path: str, *words: str, data: bytes | None = None, 
             given.write(data)
             given.flush()
             words = (*words[:-1], INPUT)
+        if any(word.startswith("-") for word in words[1:]):  # as a reason can, or the code of a paper: no option
+            words = (words[0], "--", *words[1:])
         done = subprocess.run(office.line_over(path, *words), stdin=given, stdout=output, stderr=subprocess.PIPE,
                               pass_fds=[lock.fileno()] if lock else [], check=False)
     status = done.returncode if done.returncode >= 0 else 128 - done.returncode

@@ -48,6 +48,7 @@ SESSIONS = {  # by table: which sessions a row that is another can change, as a 
     "opening": "SELECT session FROM different",
     "entry": "SELECT session FROM {moment}.paper WHERE code IN (SELECT paper FROM different)",
     "candidate": OF_NUMBERS, "arrangement": OF_NUMBERS, "appeal": OF_NUMBERS, "standing": OF_NUMBERS,
+    "seat": f"SELECT session FROM different WHERE {TO_COME}",  # the same rows can be seated in more than one way
 }
 MOMENTS = ("before", "after")
 CHANGED = ["sessions", "papers", "halls", "openings", "arrangements"]  # kinds of rows of which other values are said

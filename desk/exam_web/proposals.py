@@ -150,9 +150,8 @@ PLANS: dict[str, Callable[[Form], Plan]] = {}  # what forms ask, by the name of 
 
 
 def command(word: str, names: Sequence[str], values: Mapping[str, str]) -> Step:
-    """A command of the program with the values of these names; `--` keeps what begins with - from being an option."""
-    found = [values[name] for name in names]
-    return Step((word, *(["--"] if any(value.startswith("-") for value in found) else []), *found))
+    """A command of the program with the values of these names."""
+    return Step((word, *(values[name] for name in names)))
 
 
 def import_step(kind: str, values: Mapping[str, str]) -> Step:

@@ -161,11 +161,10 @@ def read_books(upload: Upload) -> None:
     for kind, rows in brought.items():
         known.take(kind, rows)
     names = [sheet.name for sheet in book.sheets] if upload.hidden == "take" else None
-    leave = [sheet.name for sheet in book.sheets if sheet.hidden and upload.hidden == "leave"]
     given = {kind: says for kind, says in (upload.given or {}).items()
              if len(upload.books) == 1 or not says.sheet or folded(says.sheet) in there}
     days = {code.decode(): day.decode() for code, day, _ in brought.get("sessions", [])}
-    job = tables.Job(known, upload.way, given, names, leave, hidden=upload.hidden, lines=upload.lines, days=days)
+    job = tables.Job(known, upload.way, given, names, hidden=upload.hidden, lines=upload.lines, days=days)
     try:
         take_rows(upload, ", ".join(name for name, _ in upload.books), book.form, read_book(book, job).records)
     except Trouble as trouble:
@@ -173,9 +172,10 @@ def read_books(upload: Upload) -> None:
 
 
 def together(upload: Upload) -> Book:
-    """The books as one, which has as many cells as one may have; a note says of each other one why it is left."""
-    whole, room = Book("csv", [], []), MOST_CELLS
-    for name, content in upload.books:
+    """The books as one, which has as many cells as one may have; a note says of each other one why it is left. A sheet
+    keeps its name, which can be the code of a paper."""
+    whole, room, called = Book("csv", [], []), MOST_CELLS, [name for name, _ in upload.books]
+    for number, (name, content) in enumerate(upload.books, 1):
         try:
             found = book_of(content, name)
         except Trouble as trouble:
@@ -187,7 +187,8 @@ def together(upload: Upload) -> Book:
             continue
         room -= cells
         names = {sheet.name for sheet in whole.sheets}
-        sheets = [replace(each, name=f"{each.name} ({name})") if each.name in names else each for each in found.sheets]
+        book = name if called.count(name) == 1 else f"{number}. {name}"
+        sheets = [replace(each, book=book) if each.name in names else each for each in found.sheets]
         notes = [f"{name}: {note}" for note in found.notes]
         whole = Book(found.form, [*whole.sheets, *sheets], [*whole.notes, *notes])
     return whole

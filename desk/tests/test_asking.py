@@ -138,17 +138,22 @@ class Asking(unittest.TestCase):
 
 class Serves(unittest.TestCase):
     def test_a_serve_that_refuses_the_office_is_said_and_not_begun_again(self):
+        """One whose port is taken is."""
+        self.begins("refused 22", r"does not read the office \(refused 22\)", ["refused 22"], 1)
+        self.begins("net fault", "the program ended 5 times", [], 5)
+
+    def begins(self, complaint, said, explained, times):
         with tempfile.TemporaryDirectory() as folder:
             program = os.path.join(folder, "program")
             with open(program, "w", encoding="utf-8") as file:
-                file.write(f"#!/bin/sh\necho begun >>{folder}/begun\necho 'refused 22' >&2\n")
+                file.write(f"#!/bin/sh\necho begun >>{folder}/begun\necho '{complaint}' >&2\n")
             os.chmod(program, 0o700)
             heard = []
             with contextlib.closing(asking.Serve(Office("o.db", program, datetime.date.today, ""), "o.db", heard.append)) as serve:
-                with self.assertRaisesRegex(Trouble, r"does not read the office \(refused 22\)"):
+                with self.assertRaisesRegex(Trouble, said):
                     serve.bodies([REQUEST], lambda done, of: None)
             with open(os.path.join(folder, "begun"), encoding="utf-8") as file:
-                self.assertEqual((heard, file.read()), (["refused 22"], "begun\n"))
+                self.assertEqual((heard, file.read()), (explained, "begun\n" * times))
 
 
 class Requests(unittest.IsolatedAsyncioTestCase):

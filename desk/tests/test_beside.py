@@ -11,7 +11,7 @@ import unittest
 from unittest import mock
 
 import sample
-from exam_desk import beside, copies, logbook, private, snapshot
+from exam_desk import beside, changing, copies, logbook, private, snapshot
 
 NOBODY = 65534
 APPEAL = "INSERT INTO appeal VALUES (1051, ?, 'MON-AM', 1, 'PC1', 0, 0, 'a draught', 1, NULL, '2027-05-01')"
@@ -60,6 +60,8 @@ class Strangers(Beside):
             self.assertRegex(self.refused("withdraw", "0001000", "MA-1"), f"/{name} is (no folder, or )?a link", name)
             self.assertEqual((self.bytes_of(victim), os.listdir(folder)), (b"x" * 2000, []), name)
             self.assertEqual(self.bytes_of(self.path), before, name)
+            if name == "log":
+                self.assertEqual(os.listdir(os.path.join(self.desk, "copies")), [])
         os.rename(self.desk, folder + "/desk")
         os.symlink(folder + "/desk", self.desk)
         self.assertIn("is no folder, or a link to one", self.refused("withdraw", "0001000", "MA-1"))
@@ -149,7 +151,8 @@ class Copies(Beside):
     def test_the_one_that_is_put_back_stays_until_the_next_change(self):
         with mock.patch("exam_desk.copies.MOST_COPIES", 1):
             first = copies.keep_copy(self.value, "withdraw")
-            self.assertEqual([copies.put_back(self.value, first), first], copies.listed(self.value))
+            back = changing.go_back(self.value, ["back", "1"], first, lambda lines: True)
+            self.assertEqual([back.copy, first], copies.listed(self.value))
             self.assertEqual([copies.keep_copy(self.value, "reinstate")], copies.listed(self.value))
 
     def test_a_copy_of_1_0_0_is_put_back(self):
@@ -191,7 +194,7 @@ class Copies(Beside):
             events.append(("renamed", target))
             os.rename(source, target)
         with mock.patch("os.fsync", synced), mock.patch("os.replace", renamed):
-            copies.put_back(self.value, copies.listed(self.value)[0])
+            changing.go_back(self.value, ["back", "1"], copies.listed(self.value)[0], lambda lines: True)
             kept = copies.listed(self.value)[0]
         place = events.index(("renamed", self.path))
         self.assertRegex(events[0], "/tmp/office-copy-[^/]*/office.db$")

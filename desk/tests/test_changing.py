@@ -5,6 +5,7 @@ import shutil
 import signal
 import sqlite3
 import subprocess
+import sys
 import unittest
 from unittest import mock
 
@@ -91,21 +92,23 @@ class Titles(unittest.TestCase):
         row = b"number,paper\n0001000,FR\n"
         for words, title in ((["import", "entries", "/x/late.csv"], "import entries late.csv for 0001000 FR"),
                              (["import", "entries", "/x/entries.csv"], "import entries for 0001000 FR"),
-                             (["import", "--", "entries", "-x.csv"], "import entries -x.csv for 0001000 FR"),
+                             (["import", "entries", "-x.csv"], "import entries -x.csv for 0001000 FR"),
                              (["decide", "0001000", "D1", "granted", "why"], "decide 0001000 D1 granted"),
+                             (["decide", "0001000", "D1", "granted", "two", "words"], "decide 0001000 D1 granted"),
                              (["import", "entries"], "import entries")):
             self.assertEqual(Step(tuple(words), row).title(), title)
 
 
 class Lists(Changing):
     def test_it_is_carried_out_as_it_was_tried_with_one_copy(self):
-        before = self.state()
-        with changing.rehearse(self.value, STEPS) as rehearsal:
+        before, told = self.state(), []
+        with changing.rehearse(self.value, STEPS, told.append) as rehearsal:
             names = [snapshot.name_now(self.value, path) for path in (rehearsal.before, rehearsal.after)]
             self.assertEqual([answer.first_line() for answer in rehearsal.answers],
                              ["withdrawn", "closed", "added 1 changed 0 same 0"])
         self.assertEqual((self.state(), names[0], self.kept(), self.log()), (before, before, [], []))
-        carried = changing.carry_out(self.value, STEPS, *names, "three things")
+        carried = changing.carry_out(self.value, STEPS, *names, "three things", told.append)
+        self.assertEqual(told, 2 * ["withdraw 0001000 MA-1", "close-hall MON-AM GYM", "import entries more.csv for 0001000 FR"])
         self.assertEqual((carried.answers[-1].ran.status, carried.as_promised, self.state()), (0, True, names[1]))
         self.assertEqual(self.kept(), [carried.copy])
         name = os.path.basename(carried.copy)
@@ -312,6 +315,23 @@ class Full(Changing):
             changing.go_back(self.value, ["back", "1"], copy, lambda lines: True)
         self.assertEqual((self.state(), self.kept()), (now, [copy]))
 
+    def test_a_signal_while_a_copy_is_put_back(self):
+        """It waits until the copy is in its place: steps that are refused leave nothing, and `back` is done."""
+        def replace(*paths, real=os.replace):
+            signal.raise_signal(signal.SIGINT)
+            real(*paths)
+        self.addCleanup(signal.signal, signal.SIGINT, signal.signal(signal.SIGINT, lambda *_: sys.exit(130)))
+        before = self.state()
+        with mock.patch("os.replace", replace), self.assertRaises(SystemExit):
+            changing.carry_out(self.value, [STEPS[0], STEPS[0]])
+        self.assertEqual((self.state(), self.kept(), self.said), (before, [], ["stopped: nothing is changed"]))
+        self.assertEqual(self.log()[-1][1:], ["1", "all is as before: withdraw 0001000 MA-1: refused 9"])
+        copy = changing.carry_out(self.value, STEPS[:1]).copy
+        with mock.patch("os.replace", replace), self.assertRaises(SystemExit):
+            changing.go_back(self.value, ["back", "1"], copy, lambda lines: True)
+        self.assertEqual((self.state(), self.said[1:], self.log()[-1][:2]), (
+            before, ["stopped: look whether it is done; `office back 1` takes it back then"], ["back 1", "0"]))
+
     @unittest.skipUnless(os.geteuid() == 0 and shutil.which("mount"), "a small disk needs root")
     def test_a_disk_that_fills_up(self):
         """The steps fill the disk: what is put back needs no room."""
@@ -400,6 +420,26 @@ class Killed(Changing):
             found = logbook.Unfinished("today", "back 1", copy)
             self.assertEqual(changing.way_on(self.value, found), "`back 1` of today was broken off, and there is no copy "
                                                                  "from before it: look what is done")
+
+    def test_back(self):
+        """The next change names the copy from before it, also where that is as the office is."""
+        copy, place = changing.carry_out(self.value, STEPS[:1]).copy, "exam_desk.copies.move_in"
+        for work, said in ((lambda *_: None, ", and the office is as before: give it again"),
+                           (copies.move_in, ": `office back` lists the copy of .*, before back to .*, and puts it back")):
+            if not (child := os.fork()):
+                try:
+                    with mock.patch(place, lambda *words: (work(*words), os.kill(os.getpid(), signal.SIGKILL))):
+                        changing.go_back(self.value, ["back", "1"], copy, lambda lines: True)
+                finally:
+                    os._exit(1)
+            self.assertEqual(os.waitpid(child, 0)[1], signal.SIGKILL)
+            self.assertRegex(self.run_office("reinstate", "0001000", "MA-2").stderr,
+                             f"^office: `back 1` of .* was broken off{said}\n")
+
+    def test_the_title_that_a_person_typed_is_said(self):
+        self.broken_off("open-hall", "MON-AM", "PC1", "12", "12:30", before="import openings")
+        self.assertRegex(self.run_office("look", "Ada").stderr, "^office: `open-hall MON-AM PC1 12 12:30` of .* was broken "
+                                                               "off, and the office is as before: give it again\n")
 
     def test_a_change_that_is_under_way_is_not_broken_off(self):
         going, may_end = (os.path.join(self.folder, name) for name in ("going", "may_end"))
@@ -514,7 +554,9 @@ class Taking(Changing):
         self.write("facts/candidates.csv", text)
         self.assertIn("1 candidate without an access code: nothing is changed; give --codes",
                       self.run_office("take", facts, "--yes").stderr)
-        self.assertIn("done; ", self.office("take", facts, "--yes", "--codes"))
+        said = self.office("take", facts, "--yes", "--codes")
+        self.assertIn("done; ", said)
+        self.assertNotIn("has no access code", said)
         self.assertRegex(self.office("look", "0009002", "--codes"), r"\A0009002 Ann, access code [B-Z][B-Z2-9]{9}\n")
         self.assertIn(f"access code {sample.CODE}\n", self.office("look", sample.NUMBER, "--codes"))
 

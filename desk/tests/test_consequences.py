@@ -130,6 +130,17 @@ class Told(sample.SampleSchool):
         has_desk = self.told("withdraw", "0001051", "PH-1")
         self.assertNotIn("without a desk", "".join(has_desk))
 
+    def test_who_has_no_desk_in_several_sessions_is_one(self):
+        """GYM has one desk in each session: of its candidates the lowest numbers stay, so the others are the same people."""
+        codes = ["MON-AM", "MON-PM", "TUE-AM"]
+        rows = "".join(f"{code},GYM,1,18:00,no\n" for code in codes)
+        lines = self.told("import", "openings", self.write("o.csv", f"session,hall,desks,until,reserved\n{rows}"))
+        lost = [row.split(",")[1] for code in codes for row in self.office("export", code).split("\n")
+                if row.endswith(",-,-")]
+        [line] = [line for line in lines if " without a desk" in line]
+        self.assertLess(len(set(lost)), len(lost))
+        self.assertTrue(line.startswith(f"{len(set(lost))} without a desk ({len(lost)} sittings): "), line)
+
     def test_a_late_entry_makes_a_candidate_miss_a_paper(self):
         """0001000 sits MA-1; LAT comes first by its code."""
         lines = self.told("import", "entries", self.write("e.csv", "number,paper\n0001000,LAT\n"))
@@ -153,9 +164,17 @@ class Told(sample.SampleSchool):
         """0001306 sits LAT and misses MA-2; then sits CS-1 and misses LAT. As many are missed, and the papers are others."""
         lines = self.told("import", "entries", self.write("e.csv", "number,paper\n0001306,CS-1\n"))
         self.assertIn("1 has a new clash: MON-AM 0001306 Sami Nagy", lines)
-        self.told("withdraw", "0001306", "MA-2")
+        self.assertNotIn("new clash", "".join(self.told("withdraw", "0001306", "MA-2")))  # two of the three are left
         self.assertIn("1 has a new clash\n  MON-AM 0001306 Sami Nagy: does not sit MA-2\n",
                       self.office("what-if", "back", "2"))
+
+    def test_the_same_rows_seated_in_another_way(self):
+        """Who comes back finds the last desk that suits taken by another."""
+        for word in "withdraw", "reinstate":
+            self.told(word, "0001187", "CH-1")
+        told = self.office("changes", "2", "--tell")
+        self.assertRegex(told, r"\A1 loses the desk:\n! TUE-AM 0001187 .*: LIB desk \d -> no desk\n1 gets a desk:\n! TUE-AM ")
+        self.assertRegex(self.office("what-if", "back", "2"), r"\n1 loses the desk\n  TUE-AM .*\n1 gets a desk\n")
 
     def test_who_is_not_touched_is_not_spoken_of(self):
         same = str(self.examples / "entries.csv")
@@ -318,7 +337,7 @@ class Told(sample.SampleSchool):
         self.office("withdraw", "0001306", "LAT")
         self.assertEqual(effects.done(self.value, carried.copy, lambda *_: None),
                          ["the change is done, but nobody can say what it did to candidates: the office has changed "
-                          "again meanwhile; try `office changes 1`"])
+                          "again meanwhile; try `office changes 2`"])
         newest = copies.listed(self.value)[0]
         lines = effects.done(self.value, newest, lambda *_: None)
         self.assertTrue(lines[0].startswith("1 sits another paper: MON-AM 0001306 "), lines)

@@ -262,6 +262,17 @@ class TestAppeals(DeskSchool):
         self.assertEqual(self.rows("SELECT state, answer FROM appeal"), [(3, "too late, sorry")])
         self.assertNotIn("late", self.log())
 
+    def test_the_next_one_can_still_be_decided(self):
+        """On the day of MON-AM nobody decides on it any more."""
+        for number, session in (("0001051", "MON-AM"), ("0001051", "TUE-AM"), ("0001119", "TUE-AM")):
+            self.office("lodge", number, session, "arrangement", "quiet", "0", "")
+        self.end()
+        self.environment["TODAY"] = "2027-06-07"
+        self.start()
+        page, _ = self.browser.post("/propose/decide", "/appeals/1051/D2", number="0001051", ref="D2", outcome="refused")
+        self.browser.post(page + "/do", page)
+        self.assertRegex(self.browser.get(page), "/appeals/1119/D1\">Next open appeal: .*TUE-AM")
+
     def test_a_reason_stands_in_no_log_and_no_argument(self):
         seen = set()
         stop = concurrent.futures.Future()
@@ -355,6 +366,7 @@ class TestBack(DeskSchool):
         self.browser.post(f"/office/copies/{key}/back", f"/office/copies/{key}")
         self.assertEqual(self.seats(), before)
         self.assertIn("(ab, desk)\tback\t0\tas it was", self.log())
+        self.assertRegex(self.browser.words("/office"), r"Answer \S+ \S+ \S+ \(ab, desk\) back ")  # the newest first
 
     def test_from_an_old_page(self):
         self.office("withdraw", "0001051", "PH-1")

@@ -313,6 +313,21 @@ class TestFiles(Uploads):
         self.assertIn("No mistake", self.browser.words(page))
         self.browser.get(page + "/papers.csv")
 
+    def test_sheets_of_several_workbooks_that_have_one_name(self):
+        """Each is what its name says, here a list of those who sit EN-1; one that is hidden leaves the others."""
+        first, second = (workbook({"EN-1": [["number"], [number]]}) for number in (1000, 1017))
+        hidden = workbook({"EN-1": [["number"], [1051]], "Notes": [["x"]]}, sheets=["EN-1"])
+        alike = zipped({"a/a.xlsx": first, "b/b.xlsx": second, "c/b.xlsx": hidden})
+        for found, choice, numbers in (([("a.xlsx", first), ("b.xlsx", second)], "", (1000, 1017)),
+                                       ([("z.zip", alike)], "leave", (1000, 1017)), ([("z.zip", alike)], "take", (1000, 1017, 1051))):
+            page = self.upload(*found, hidden=choice)
+            self.assertIn("No mistake", self.browser.words(page))
+            _, text = self.browser.ask("GET", page + "/entries.csv")
+            self.assertEqual(text.split("\n")[1:-1], [f'"{number:07}","EN-1"' for number in numbers])
+        words = self.browser.words(self.upload(*((f"{number}.xlsx", workbook({"EN-1": [["number"], [number]]})) for number in (8, 9))))
+        for place, number in ("'EN-1'!A2", 8), ("'EN-1 (9.xlsx)'!A2", 9):
+            self.assertIn(f"{place} : number '000000{number}': is not among the candidates", words)
+
     def test_dates_are_chosen_on_the_screen(self):
         sheets = {"Sessions": [["session", "date", "start"], ["X-1", "01/06/2027", "9:00"]]}
         page = self.upload(("s.xlsx", workbook(sheets)))
@@ -403,6 +418,8 @@ class TestFiles(Uploads):
         page = self.upload(("r.xlsx", rooms), ("s.xlsx", pupils), ("columns.toml", more))
         self.assertIn("No mistake", self.browser.words(page))  # each says of its own workbook alone
         self.assertIn('"R20","Room","-"', self.browser.ask("GET", page + "/halls.csv")[1])
+        words = self.browser.words(self.upload(("s.xlsx", pupils), ("columns.toml", more)))
+        self.assertIn("there is no sheet Rooms here; there are: Pupils", words)  # it comes alone, so it should have it
         for wrong, said in ((b"[pupils]\n", "pupils is none of the seven kinds"), (b"x = " + b"[" * 9999, "recursion"),
                             (b"\xff", "its letters are no UTF-8: save it as UTF-8")):
             _, text = self.browser.send("/files", "/files", "files", export, ("columns.toml", wrong), status=422)
@@ -517,6 +534,8 @@ class TestFiles(Uploads):
                 archive.writestr(f"{place}.csv", "x")
         text = self.browser.words(self.upload(("many.zip", out.getvalue())))
         self.assertIn("many.zip : it holds 65 files", text)
+        most = zipped({f"{place}.csv": "x" for place in range(63)} | {"halls.csv": HALLS})
+        self.assertNotIn("it holds 64 files", self.browser.words(self.upload(("most.zip", most))))
         self.assertIn("Nothing could be taken", text)
         self.assertIn("none.zip : it holds 0 files", self.browser.words(self.upload(("none.zip", zipped({})))))
         self.assertEqual(self.upload(), "/files")

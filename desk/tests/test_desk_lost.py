@@ -21,6 +21,10 @@ class TestLostHall(DeskSchool):
             self.assertEqual(self.button(both), said)
             back = re.search('<p class="crumbs"><a href="([^"#]+)#close"', self.browser.get(both))[1]
             self.assertEqual(self.browser.get(back.removeprefix(self.browser.prefix)).count('id="close"'), 1)
+        self.office("close-hall", "MON-AM", "GYM")  # somebody was sooner
+        _, text = self.browser.post("/propose/close", page, 422, session="MON-AM", lost="GYM", hall="R14", desks="60",
+                                    until="14:00", proposal=page.rsplit("/", 1)[1])
+        self.assertRegex(text, 'id="fault-close-lost"[^>]*>the hall is not open for this session')
 
     def button(self, page):
         found = re.search('<button class="primary big">(.*?)</button>', self.browser.get(page))[1]

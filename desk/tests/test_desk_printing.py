@@ -171,6 +171,7 @@ class TestPrinting(DeskSchool):
 
     def test_a_slip(self):
         _, text = self.browser.post("/candidates/1051/slip", "/candidates/1051", 200)
+        self.assertEqual(text, self.office("slips", "--only", "0001051", "--desks"))
         self.assertIn("Di Berg", text)
         self.assertNotIn(sample.CODE, text)
         _, text = self.browser.post("/candidates/1051/slip", "/candidates/1051", 200, codes="1")

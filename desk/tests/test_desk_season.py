@@ -169,6 +169,7 @@ class TestClashes(SmallSchool):
         self.assertIn(f"{self.ONE} S1", self.browser.words("/"))
         self.office("lodge", "0000001", "S1", "clash", "SHORT", "again")
         self.assertNotIn("two papers at once", self.browser.words("/"))
+        self.assertIn('aria-label="open: Appeal 0000001 D2"', self.browser.get("/clashes"))  # and not the refused one
 
 
 if __name__ == "__main__":

@@ -234,6 +234,9 @@ class Lists(sample.SampleSchool):
         self.assertRegex(first, "^[B-Z][B-Z2-9]{9}$")
         with mock.patch("secrets.choice", side_effect="B" * 10 + "C" * 10):
             self.assertEqual(coding.new_code({"B" * 10}), "C" * 10)
+        with mock.patch("secrets.choice", side_effect="B" * 10 + "C" * 10 + "D" * 10):  # in the file, in the office, free
+            found, _ = coding.filled([["0000001", "Ada", ""], ["0000002", "Bo", "B" * 10]], {"0000002": "D" * 10, "0000003": "C" * 10})
+        self.assertEqual(found[0][2], "D" * 10)
 
     def test_rows_without_codes_are_those_that_an_import_takes(self):
         header, check = "line 1 must be: number,name,code", "line 2 is wrong; `office check-files` says how"
@@ -272,8 +275,8 @@ class Lists(sample.SampleSchool):
     def test_a_lost_code(self):
         """No file with a code is left, twice in a row; the name stays, the old code is told, and the copy has a name."""
         codes = [sample.CODE]
-        for _ in range(2):
-            done = self.run_office("codes", "1051")
+        for numbers in (["1051", "0001051"], ["1051"]):
+            done = self.run_office("codes", *numbers)
             self.assertEqual((done.returncode, done.stdout), (0, "added 0 changed 1 same 0\n"), done.stderr)
             self.assertEqual(done.stderr, "1 has another access code, and a slip that opens nothing: 0001051 Di Berg\n")
             codes += re.findall("0001051 Di Berg, access code (.*)\n", self.office("look", "0001051", "--codes"))

@@ -34,7 +34,7 @@ class Looking(sample.SampleSchool):
         """Its port is taken, or the day is none, which no second try mends."""
         self.assertEqual(self.refused("keep", "start", str(sample.free_port()), TODAY="2027-05"),
                          f"office: `keep` does not run; the last line of {self.desk}/keep.log: TODAY is 2027-05; write a "
-                         "date as 2027-05-30\n")
+                         "date as 2027-05-30, from 2000 to 2199\n")
         for _ in range(2):
             with contextlib.closing(socket.socket()) as other:
                 other.bind(("127.0.0.1", 0))

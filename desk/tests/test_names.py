@@ -43,6 +43,7 @@ class Names(unittest.TestCase):
     def test_namesakes_by_number(self):
         numbers = ["0000010", "0000002", "0000001"]
         self.assertEqual(sorted(numbers, key=lambda number: lists.name_order("Lin, Ada", number)), numbers[::-1])
+        self.assertLess(lists.name_order("Nunez, Ana", "0000002"), lists.name_order("Núñez, Ana", "0000001"))
 
     def test_names_that_are_written_otherwise_are_looked_up_as_one(self):
         for one, other in (("Núñez", "nunez"), ("O’Brien", "o'brien"), ("Łoś", "LOS"), ("Straße", "strasse"),

@@ -9,10 +9,12 @@ import os
 import pathlib
 import re
 import stat
+import subprocess
 import sys
 import tempfile
 import unittest
 from collections import Counter, defaultdict
+from unittest import mock
 
 import sample
 
@@ -136,6 +138,17 @@ class Notebook(unittest.TestCase):
         office = dataclasses.replace(self.office, today=lambda: datetime.date(2027, 5, 1))
         self.assertEqual([notebook.is_to_come(office, day) for day in ("2027-04-30", "2027-05-01", "2027-05-02")],
                          [False, False, True])
+
+    def test_what_is_kept_or_taken_away_is_on_the_disk(self):
+        """The file before it has its name, then the name."""
+        steps, rename, unlink = [], os.rename, os.unlink
+        with (mock.patch.object(beside, "sync", lambda path: steps.append(("sync", os.path.basename(path)))),
+              mock.patch("os.rename", lambda old, new: (steps.append("name"), rename(old, new))),
+              mock.patch("os.unlink", lambda path: (unlink(path), steps.append("gone")))):
+            for value in ([], None):
+                notebook.keep(self.office, "absent.S1", lambda _: value)
+        self.assertEqual(steps, [("sync", "absent.S1.json.new"), "name", ("sync", "notebook"), "gone",
+                                 ("sync", "notebook")])
 
     def test_for_the_user_of_the_office_alone(self):
         notebook.take_notes(self.office, {"0000001": "a"})
@@ -279,6 +292,14 @@ class Commands(sample.SampleSchool):
         self.assertEqual(len([line for line in self.board() if line[4] == "absent"]), 2)
         self.assertIn("there is no session MON", self.refused("absent", "MON"))
 
+    def test_numbers_that_come_in_are_those_of_the_office_as_it_is_then(self):
+        self.environment["TODAY"] = "2027-06-07"
+        with subprocess.Popen([sample.DESK / "office", "absent", "MON-AM", "-"], env=self.environment, text=True,
+                              stdin=subprocess.PIPE, stderr=subprocess.PIPE) as process:
+            self.assertIn("waiting", process.stderr.readline())
+            self.office("withdraw", "0001000", "MA-1")
+            self.assertIn("0001000: no candidate of MON-AM", process.communicate("0001000\n")[1])
+
     def test_printed(self):
         self.office("rows", "GYM", "8")  # the other halls have no chart, since nobody said how their desks stand
         self.assertIn("nobody noted", self.refused("printed", "MON-AM", "--look"))
@@ -336,6 +357,17 @@ class Commands(sample.SampleSchool):
         self.office("open-hall", "TUE-PM", "GYM", "90", "18:00")
         self.assertIn("0001051 Di Berg: no desk -> GYM 1\n", self.office("printed", "TUE-PM", "--look"))
         self.assertIn("<td class=n>1 <small>new</small></td>", self.office("board", "TUE-PM"))
+
+    def test_a_session_in_which_nobody_was(self):
+        for kind, rows in (("sessions", "session,date,start\nTUE-PM,2027-06-08,14:00\n"),
+                           ("papers", "paper,title,session,minutes,requires\nART,Art,TUE-PM,60,-\n")):
+            self.office("import", kind, self.write("new.csv", rows))
+        self.assertIn("nobody noted", self.refused("printed", "TUE-PM", "--look"))
+        self.office("printed", "TUE-PM")
+        self.assertEqual(self.office("printed", "TUE-PM", "--look"), "the papers are up to date\n")
+        self.office("import", "entries", self.write("new.csv", "number,paper\n0001051,ART\n"))
+        self.assertEqual(self.office("printed", "TUE-PM", "--look"), "0001051 Di Berg: not on paper -> no desk\n"
+                         "to print again: board, counts, slips\n")
 
     def test_what_else_is_on_paper(self):
         """A line is another one where the desk is the same: each part of it that papers show, with old and new."""
@@ -396,6 +428,8 @@ class Commands(sample.SampleSchool):
                          "1 session has printed papers that are out of date: MON-AM (doors of AULA; slips)\n"
                          "`office printed` lists them\n")
         self.assertEqual(self.run_office("notes", first).stderr, "")  # as on paper again
+        for day, is_told in (("2027-06-07", True), ("2027-06-08", False)):  # of the session; the next
+            self.assertEqual("MON-AM" in self.run_office("notes", other, TODAY=day).stderr, is_told)
 
     def test_no_text_of_a_note_is_kept_with_what_is_printed(self):
         """A note that is taken away is gone; what an earlier version kept of it is compared as it is now."""

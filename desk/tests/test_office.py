@@ -98,10 +98,29 @@ class Words(sample.SampleSchool):
         log = pathlib.Path(self.desk, "log").read_text("utf-8")
         self.assertNotIn("Angst", log)
 
+    def test_values_that_begin_with_a_dash(self):
+        """A reason, and the code of a paper or a hall; a name of a file behind two dashes."""
+        paper = self.write("-p.csv", "paper,title,session,minutes,requires\n-A,Zoo,MON-AM,60,-\n")
+        self.assertEqual(self.office("import", "--", "papers", "-p.csv"), "added 1 changed 0 same 0\n")
+        self.office("import", "entries", self.write("e.csv", "number,paper\n0001000,-A\n"))
+        self.assertEqual(self.office("withdraw", "1000", "-A"), "withdrawn\n")
+        self.assertIn("line 2: reinstate 0001000 -A: reinstated\n", self.office("reinstate", "--list", "e.csv"))
+        for reason, stdin in (("-5 marks", ""), ("-", "-5 marks\n")):
+            self.assertRegex(said := self.office("lodge", "1051", "MON-AM", "hall", "PC1", "-x"), "0001051 D[12] open")
+            self.assertEqual(self.office("decide", "1051", said.split()[1], "refused", reason, stdin=stdin),
+                             "decided refused hall PC1 moved 0\n")
+        self.assertEqual(self.office("look", "1051").count("    reason: -x\n    answer: -5 marks\n"), 2)
+        text = pathlib.Path(self.desk, "log").read_text("utf-8")
+        self.assertIn("\timport papers -p.csv for -A\t0\t", text)
+        self.assertNotIn("marks", text)
+        self.assertTrue(os.path.exists(paper))
+
     def test_a_file_that_others_can_read(self):
         """The shell makes the file: a note says that it holds what is private, unless a folder keeps others out."""
         is_open = all(above.stat().st_mode & 0o011 for above in pathlib.Path(self.folder).parents)
+        self.office("printed", "MON-AM")
         for words, mode, folder, is_said in (
+                (["printed", "MON-AM", "--look"], 0o604, 0o755, True),  # needs and extra time, before and now
                 (["slips", "--codes"], 0o644, 0o755, True), (["doors", "MON-AM"], 0o640, 0o755, True),
                 (["look", "1051"], 0o600, 0o755, False), (["look", "1051"], 0o644, 0o700, False),
                 (["look", "1051"], 0o604, 0o755, True), (["poster", "MON-AM"], 0o644, 0o755, False)):
@@ -221,6 +240,8 @@ class Words(sample.SampleSchool):
             for line, start in zip(lines[1:], said):
                 self.assertTrue(line.startswith(f"  {start}"), (line, start))
             self.assertEqual(lines[1 + len(said)][:15], "  Usage: office", done.stderr)
+        for name in "log", "want.lock":
+            self.assertNotRegex(pathlib.Path(self.desk, name).read_text("utf-8"), "xxx|yyy")
         for words, said in ((["lodge", "0001051", "MON-AM", "hal", "PC1", "x"],
                              "kind of appeal 'hal': one of hall, clash, arrangement"),
                             (["lodge", "1051x", "mon-am"], "number '1051x': seven digits; session 'mon-am': write MON-AM (1 "
@@ -274,7 +295,11 @@ class Words(sample.SampleSchool):
 
     def test_a_bad_date_is_named(self):
         self.assertIn("TODAY is 1.5.2027", self.refused("shortage", "MON-AM", TODAY="1.5.2027"))
-        self.assertIn("TODAY is 1.5.2027", self.refused("withdraw", "0001000", "MA-1", TODAY="1.5.2027"))
+        for day in "1.5.2027", "1999-12-31", "2200-01-01":
+            self.assertEqual(self.refused("withdraw", "0001000", "MA-1", TODAY=day),
+                             f"office: TODAY is {day}; write a date as 2027-05-30, from 2000 to 2199\n")
+        for day in "2000-01-01", "2199-12-31":
+            self.assertIn("unseated 2", self.office("shortage", "MON-AM", TODAY=day))
         self.assertEqual(self.office("back"), "no copies\n")
 
     def test_a_file_that_is_no_office(self):
@@ -370,6 +395,11 @@ class Causes(sample.SampleSchool):
             sample.until(lambda: refusals.holder(self.value))
             self.assertEqual(refusals.holder(self.value), f"process {process.pid} (sleep 60)")
             self.assertEqual(refusals.patience(self.value), turns.PATIENCE)
+            process.kill()
+        line = {"args": ["/srv/serve/program", "60"], "executable": "/bin/sleep"}
+        with open(self.path, "rb") as file, subprocess.Popen(**line, stdin=file) as process:
+            sample.until(lambda: refusals.holder(self.value))
+            self.assertEqual(refusals.patience(self.value), turns.PATIENCE)  # that is no `serve`
             process.kill()
 
     def test_what_was_overwritten(self):

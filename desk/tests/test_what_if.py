@@ -4,8 +4,10 @@ import os
 import re
 import sqlite3
 import unittest
+from unittest import mock
 
 import test_changing
+import command
 from commands import programs
 from exam_desk import changing, snapshot, telling
 from exam_desk.reading import Sitting
@@ -100,13 +102,24 @@ class WhatIf(test_changing.Changing):
         """Another command came between the look at the office and the rehearsal."""
         step = changing.Step(("withdraw", "0001000", "MA-1"))
         with changing.rehearse(self.value, [step]) as rehearsal:
-            before, after = (snapshot.name_now(self.value, path) for path in (rehearsal.before, rehearsal.after))
-            for state in ("another", after):
+            for state in ("another", snapshot.name_now(self.value, rehearsal.after)):
                 plan = programs.Asked(steps=[step], is_agreed=True, made_for=state)
-                with self.assertRaisesRegex(Stale, "the office changed meanwhile, so nothing is changed"):
-                    plan.said(rehearsal)
-            self.assertEqual(programs.Asked(steps=[step], is_agreed=True, made_for=before,
-                                            own=lambda before, after: []).said(rehearsal), 0)
+                with (self.assertRaisesRegex(Stale, "the office changed meanwhile, so nothing is changed"),
+                      mock.patch.dict(os.environ, self.environment), programs.rehearsed(plan)):
+                    self.fail("it is rehearsed")
+
+    def test_a_name_and_a_code_that_are_given_at_once(self):
+        """Each is made from the row that the other changes: the second is not done, and the first stays."""
+        for first, second, left in ((["name", "0001051", "Eve"], ["codes", "0001051"], "0001051 Eve, access code VMGNZGEDP9\n"),
+                                    (["codes", "0001051"], ["name", "0001051", "Ida"], "0001051 Eve, access code ")):
+            with mock.patch.dict(os.environ, self.environment):
+                plan = command.COMMANDS[second[0]].run(command.parser_of(second[0], second[1:]))
+                self.assertEqual(self.run_office(*first).returncode, 0)
+                with self.assertRaises(Stale):
+                    plan()
+            self.assertTrue(self.office("look", "1051", "--codes").startswith(left), left)
+            self.assertEqual(self.office("look", "1051", "--codes").startswith("0001051 Eve, access code VMGNZGEDP9\n"),
+                             first[0] == "name")
 
     def test_take_is_its_rehearsal_without_the_question(self):
         facts = self.facts()
@@ -118,9 +131,12 @@ class WhatIf(test_changing.Changing):
             self.assertIn(f"`office {word}` changes no seat; name a command that does: back, close-hall, codes, decide, import, "
                           "migrate, name, open-hall, reinstate, second-sitting, take, withdraw\n",
                           self.refused("what-if", word, "x"))
+        self.assertIn("there is no office here; go to its folder, ",
+                      self.refused("what-if", "withdraw", "1000", "MA-1", OFFICE=self.path + ".none"))
         self.assertRegex(self.refused("what-if"), r"\Aoffice: name a command that does: back, .*, withdraw\n\Z")
         self.assertEqual(self.run_office("what-if", "take").returncode, 2)
         self.assertIn("office name", self.office("what-if", "name", "--help"))
+        self.assertEqual(self.office("what-if", "withdraw", "--help"), self.office("withdraw", "--help"))
 
     def test_a_paper_that_gets_another_session(self):
         """Who sits it as before, in the other session, is said once, and not to leave one and to join another."""

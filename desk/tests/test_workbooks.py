@@ -12,6 +12,7 @@ import shutil
 import subprocess
 import sys
 import tempfile
+import time
 import unittest
 from unittest import mock
 
@@ -176,10 +177,23 @@ class Limits(unittest.TestCase):
         with self.assertRaisesRegex(Trouble, "cannot be read: it is no file"):
             opening.open_book(str(HERE))
 
+    def test_no_text_takes_long(self) -> None:
+        """Marks on letters, which are put in order; digits and brackets that have no end."""
+        began, many = time.process_time(), 100_000
+        for number, name, said in ((1, many * "\u0301" + many * "\u0327", "has 200,000 letters; at most 1000 are looked at"),
+                                   (("n", many * "1" + "x"), "Ada", "is no number"),
+                                   (("n", "17", many * "["), "Ada", "a value whose number format shows nothing")):
+            data = child.read(rawbook.xlsx(cases.candidates([number, name, "CODE0001"])))
+            with contextlib.suppress(Trouble):
+                data = "".join(line.whole() for line in read_book(unpacked(data), Job(Known())).lines).encode()
+            self.assertIn(said, data.decode())
+        self.assertLess(time.process_time() - began, 10)
+
     def test_merged_cells_have_a_limit(self) -> None:
-        book = unpacked(child.read(rawbook.xlsx(cases.candidates(cases.ADA, [], [], cases.BO, merge=["A2:A3", "B2:B4"]))))
-        with mock.patch("exam_desk.workbook.rows.MOST_MERGED", 2), self.assertRaisesRegex(Trouble, "cells cover more than 2 rows"):
-            read_book(book, Job(Known()))
+        for merge in ["A2:A3", "B2:B4"], ["A2:B2", "A3:B3", "A8:B9"]:
+            book = unpacked(child.read(rawbook.xlsx(cases.candidates(cases.ADA, [], [], cases.BO, merge=merge))))
+            with mock.patch("exam_desk.workbook.rows.MOST_MERGED", 2), self.assertRaisesRegex(Trouble, "cells cover more than 2 rows"):
+                read_book(book, Job(Known()))
 
 
 class Columns(unittest.TestCase):
@@ -259,6 +273,15 @@ class Mending(unittest.TestCase):
             job = mend_folder(folder, Job(Known()), None, lambda text: None)
         self.assertEqual((2, 0), (len(job.records["entries"]), job.count("mistake")))
         self.assertEqual([], Job(Known()).together)
+
+    def test_a_second_file_is_of_its_kind_whatever_it_has(self) -> None:
+        with tempfile.TemporaryDirectory() as folder:
+            for name, text in (("halls.csv", ""), ("entries.csv", "number,paper\n0000001,MA-1\n"),
+                               ("entries-2.csv", "Nummer,Kurs\n2,MA-1\n")):
+                pathlib.Path(folder, name).write_text(text, "utf-8")
+            lines = [line.whole() for line in mend_folder(folder, Job(Known()), None, lambda text: None).lines]
+        self.assertEqual("halls: NOTE: is empty, so it is not read", lines[0])
+        self.assertRegex(lines[1], "^'entries-2'!1: MISTAKE: no row is a header with number and paper")
 
     def test_the_code_of_the_office_stands_where_none_is(self) -> None:
         known = Known()

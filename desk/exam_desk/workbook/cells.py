@@ -49,6 +49,7 @@ class Sheet:
     hidden_columns: list[Sequence[int]] = field(default_factory=list)
     merged: list[Sequence[int]] = field(default_factory=list)  # first row and column, last row and column
     comments: list[Sequence[int]] = field(default_factory=list)  # row and column
+    book: str = ""  # in which it is, where a sheet of another book has its name too
 
 
 class Book(NamedTuple):
@@ -113,7 +114,8 @@ def place_name(sheet: Sheet | None, row: int | None = None, column: int | None =
     """A place as people write it: Sheet!B7, Sheet!7, Sheet!B, Sheet; names that are not one word in quotes."""
     if sheet is None:
         return ""
-    name = sheet.name if re.fullmatch(r"\w+", sheet.name) else "'" + sheet.name.replace("'", "''") + "'"
+    name = sheet.name + f" ({sheet.book})" * (sheet.book != "")
+    name = name if re.fullmatch(r"\w+", name) else "'" + name.replace("'", "''") + "'"
     place = f"{letters_of(column or 0)}{row or ''}"
     return f"{name}!{place}" if place else name
 

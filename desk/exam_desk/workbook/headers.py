@@ -10,7 +10,7 @@ from typing import NamedTuple
 from exam_desk import files, mistakes
 from exam_desk.office import Trouble
 from exam_desk.workbook.cells import Cell, Sheet
-from exam_desk.workbook.values import Way, bare
+from exam_desk.workbook.values import MOST_LETTERS, Way, bare
 
 WITHIN = 20  # rows of a sheet in which its header is looked for
 MOST_COLUMNS, MOST_POINTS = 1 << 16, 1000  # bytes of a file of columns, and points: its reader is slow at a.a.a.a
@@ -74,7 +74,8 @@ class Header(NamedTuple):
 
 @functools.lru_cache(1 << 14)
 def folded(text: str) -> str:
-    return re.sub(r"[\W_]+", "", unicodedata.normalize("NFKC", bare(text)).casefold()) + ("%" if "%" in text else "")
+    text = unicodedata.normalize("NFKC", bare(text[:MOST_LETTERS])).casefold()
+    return re.sub(r"[\W_]+", "", text) + ("%" if "%" in text else "")
 
 
 def seen(cell: Cell | None) -> Cell | None:

@@ -7,11 +7,11 @@ from typing import Any
 
 from openpyxl.comments import Comment
 from openpyxl.styles import Font, PatternFill
-from openpyxl.utils import get_column_letter
 from openpyxl.workbook.workbook import Workbook
 from openpyxl.worksheet.datavalidation import DataValidation
 
 from exam_desk import files, mistakes
+from exam_desk.workbook.cells import letters_of
 from exam_desk.workbook.rows import EXAMPLE
 from exam_desk.words import FEATURES
 
@@ -58,7 +58,7 @@ def put_header(sheet: Any, kind: str) -> None:
     sheet.freeze_panes = "A2"
     put_row(sheet, 1, files.HEADERS[kind], HEAD)
     for place, name in enumerate(files.HEADERS[kind], 1):
-        letter, cure = get_column_letter(place), mistakes.CURES[name]
+        letter, cure = letters_of(place), mistakes.CURES[name]
         sheet.column_dimensions[letter].width = WIDTHS.get(name, 14)
         sheet.column_dimensions[letter].number_format = TEXT
         sheet.cell(1, place).comment = Comment(f"{MEANS[name]}: {cure}", "office", width=320, height=110)

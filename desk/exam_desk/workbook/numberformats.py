@@ -17,9 +17,9 @@ BUILT_IN = {  # formats by number; each machine has dates and a currency of its 
     **dict.fromkeys((7, 8, 39, 40, 43, 44), "#,##0.00"),
     **dict.fromkeys((*range(14, 23), *range(27, 37), 45, 47, *range(50, 59)), "m/d/yy h:mm")}
 AS_THE_FILES = {"yyyy-mm-dd": "%Y-%m-%d", "hh:mm": "%H:%M"}  # formats of moments that show what the files have
-NUMBER = re.compile(r"\s*[+-]?([0-9]+\.?[0-9]*|\.[0-9]+)([eE][+-]?[0-9]+)?\s*")
-TOKEN = re.compile(r'"[^"]*"|\\.|_.|\*.|\[[^\]]*\]|General|AM/PM|([ymdhs])\1*|[0#?]+(?:[0#?,.]*[0#?])?,*|.', re.I)
-OF_ITS_OWN = re.compile(r"\[([<>=]|dbnum|\$[^\]-]*-[0-9a-f]{5,})", re.I)  # conditions, digits of other scripts
+NUMBER = re.compile(r"\s*[+-]?([0-9]+(\.[0-9]*)?|\.[0-9]+)([eE][+-]?[0-9]+)?\s*")
+TOKEN = re.compile(r'"[^"]*"|\\.|_.|\*.|\[[^][]*\]|General|AM/PM|([ymdhs])\1*|[0#?]+(?:[0#?,.]*[0#?])?,*|.', re.I)
+OF_ITS_OWN = re.compile(r"\[([<>=]|dbnum|\$[^][-]*-[0-9a-f]{5,})", re.I)  # conditions, digits of other scripts
 DIGITS = re.compile(r"(?P<group>#,)?#*(?P<zeros>0*)(?:\.(?P<places>0+))?")
 
 

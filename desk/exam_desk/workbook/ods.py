@@ -166,7 +166,8 @@ class OdsReader:
             days, hours, minutes, rest = (decimal.Decimal((part or "0").replace(",", ".")) for part in match.groups())
             found = Cell("time", clock_text(round(((days * 24 + hours) * 60 + minutes) * 60 + rest)), shown)
         elif kind == "time" or shown or given.get("string-value"):
-            found = Cell("text", shown or value or given.get("string-value", ""), shown)
+            text = shown or value or given.get("string-value", "")
+            found = Cell("text", text, text)
         else:
             return None
         struck = struck or any(self.is_struck(attributes(inside).get("style-name"), FAMILIES.get(local(inside), ""))

@@ -93,7 +93,7 @@ def read_csv(data: bytes, name: str, encoding: str | None = None) -> Book:
     budget, sheet = Budget(), Sheet(name)
     try:
         text = data.decode(encoding or ("utf-16" if data.startswith(UTF_16) else "utf-8-sig"))
-        comma = comma_of([line for line in text.splitlines()[:20] if line.strip()])
+        comma = comma_of([line for line in text[:1 << 16].splitlines()[:20] if line.strip()])
         for record in files.records(text.encode(), comma.encode()):
             if not record.closed:
                 raise Trouble(f"a quote is not closed in line {record.line}")

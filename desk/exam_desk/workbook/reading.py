@@ -47,7 +47,10 @@ def read_book(book: Book, job: Job, progress: Progress = lambda text: None) -> J
         where = ": see `office template`" if job.way.is_command else ""
         job.mistake(f"no sheet has rows of one of the seven kinds{where}")
     keep_codes(job)
-    check_files(job, progress)
+    said = {line.place for line in job.lines if line.sort == "mistake"}
+    for kind, rows in job.records.items():
+        progress(f"{kind}: check of {len(rows):,} rows")
+        check_file(job, kind, rows, said)
     return job
 
 
@@ -74,10 +77,13 @@ def usable_sheets(job: Job, book: Book) -> list[Sheet]:
     if missing:
         job.mistake(f"there is no sheet {', '.join(missing)}; there are: {', '.join(names)}")
     for sheet in book.sheets:
-        if job.sheets is not None and sheet.name not in job.sheets or sheet.name in job.leave:
+        is_left = sheet.hidden and job.hidden == "leave" and not job.way.is_command
+        if is_left or job.sheets is not None and sheet.name not in job.sheets or sheet.name in job.leave:
             job.note("is not read, as you said", sheet)
         elif sheet.rows:
             (hidden if sheet.hidden and job.sheets is None else usable).append(sheet)
+        elif book.form == "csv":
+            job.note("is empty, so it is not read", sheet)
     job.papers = named_papers(job, usable)
     tell_hidden(job, usable, hidden)
     return usable
@@ -102,15 +108,20 @@ def may_be(job: Job, kind: str, sheet: Sheet) -> bool:
 def kinds_by_name(job: Job, sheet: Sheet) -> list[str]:
     """The kinds that the file of columns or else the name of the sheet says."""
     given = [kind for kind, said in job.given.items() if said.sheet and may_be(job, kind, sheet)]
-    named = KINDS.get(folded(sheet.name))
+    named = named_kind(sheet)
     return given or ([named] if named and may_be(job, named, sheet) else [])
+
+
+def named_kind(sheet: Sheet) -> str:
+    """The kind that the name of a sheet says, or ''; entries-2 goes on where entries ends."""
+    return KINDS.get(folded(re.sub("-[0-9]+$", "", sheet.name)), "")
 
 
 def headers_of(job: Job, sheet: Sheet) -> dict[str, Header | None]:
     """The kinds that a sheet may be, each with its header if that is found."""
     if kinds := kinds_by_name(job, sheet):
         return {kind: find_header(kind, sheet, job.of_kind(kind)) for kind in kinds}
-    if folded(sheet.name) in KINDS:
+    if named_kind(sheet):
         return {}  # the file of columns says another sheet of the kind
     told = [kind for kind, said in job.given.items() if said.headers and not said.sheet]
     if named := {kind: header for kind in told if (header := find_header(kind, sheet, job.given[kind]))}:
@@ -195,21 +206,14 @@ def keep_codes(job: Job) -> None:
             record.fields[2] = code.decode()
             job.change("code (empty) became the one that the office has", record.sheet, record.row, record.columns[2])
         elif not record.fields[2]:
-            without.setdefault(record.sheet.name, []).append(record)
+            without.setdefault(place_name(record.sheet), []).append(record)
     job.lines += [Line("note", mistakes.no_codes(len(found)), found[0].sheet, [record.row for record in found],
                        found[0].columns[2], mistakes.NO_CODE) for found in without.values()]
 
 
-def check_files(job: Job, progress: Progress) -> None:
-    """Adds what `office check-files` would say of the files, on the cells from which their values come."""
-    said = {line.place for line in job.lines if line.sort == "mistake"}
-    for kind, rows in job.records.items():
-        progress(f"{kind}: check of {len(rows):,} rows")
-        check_file(job, kind, rows, said)
-
-
 def check_file(job: Job, kind: str, rows: list[Record], said: set[str]) -> None:
-    """Adds what is wrong with a file unless a line on the cell says it. What was said is known afterwards."""
+    """Adds what `office check-files` would say of a file, on the cells from which its values come, unless a line on the
+    cell says it. What was said is known afterwards."""
     header = files.HEADERS[kind]
     file = mistakes.File(kind, job.known, place=lambda line: place_name(*rows[line - FIRST][:2]))
     found = file.looked_through(files.Record(line, tuple(map(encoded, record.fields)), True)

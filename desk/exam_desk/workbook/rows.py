@@ -80,10 +80,10 @@ class Table(Headed):
     def filled_by(self, top: int, left: int, bottom: int, right: int) -> dict[tuple[int, int], Cell]:
         """What a merged cell says for its rows. A value below it is one that nobody sees."""
         reach, rows = f"{letters_of(left)}{top}:{letters_of(right)}{bottom}", range(top, min(bottom, self.last) + 1)
-        under = [(row, place) for row in rows for place in self.below.get(row, ()) if left <= place <= right]
+        under = [(row, place) for row in rows for place in sorted(self.places) if left <= place <= right]
         for row, place in under:
-            cell = seen(self.below[row][place]) if place in self.places and (row, place) != (top, left) else None
-            if cell:
+            cell = seen(self.below.get(row, {}).get(place))
+            if cell and (row, place) != (top, left):
                 text = f"{shown_of(cell)!r} is hidden by the merged cells {reach}: split them"
                 self.mistake(row, place, text, "covered")
         cell = seen(self.sheet.rows.get(top, {}).get(left))

@@ -63,7 +63,7 @@ def together(lines: Iterable[Line]) -> list[Line]:
     kinds: defaultdict[tuple[object, ...], defaultdict[str, list[Line]]] = defaultdict(lambda: defaultdict(list))
     for line in lines:
         what = [word for word in line.what.split(" ") if not (line.rows and PARTICULAR.search(word))]
-        kinds[line.sort, line.sheet and line.sheet.name, line.column, " ".join(what)][line.text].append(line)
+        kinds[line.sort, place_name(line.sheet), line.column, " ".join(what)][line.text].append(line)
     found = [joined(part) for (sort, *_, what), texts in kinds.items()
              for part in (texts.values() if len(texts) <= MOST_TEXTS or (sort, what) == ("change", "date")
                           else [[*itertools.chain(*texts.values())]])]

@@ -12,7 +12,7 @@ from exam_desk import files, mistakes
 from exam_desk.workbook.cells import Cell
 from exam_desk.words import FEATURES, long_day, plain
 
-MOST_LETTERS = 1000  # of a cell: the patterns take long for longer ones
+MOST_LETTERS = 1000  # of a cell: the patterns take long for longer ones, and marks on letters still longer
 INVISIBLE = dict.fromkeys([0xad, 0x61c, 0x180e, 0x200b, 0x200e, 0x200f, *range(0x202a, 0x202f), *range(0x2060, 0x2070),
                            0xfeff, *range(0xfff9, 0xfffc)])
 SPACES = re.compile(r"[\u00a0\u1680\u2007\u202f\u2000-\u200a\u3000\u205f]")
@@ -141,7 +141,7 @@ def shown_of(cell: Cell | None) -> str:
 def cleaned(text: str) -> tuple[str, str]:
     """A text without what no eye sees, in composed letters, and what was done."""
     done = []
-    for what, clean in OTHER_LETTERS.items() if not text.isascii() else ():
+    for what, clean in OTHER_LETTERS.items() if not text.isascii() and len(text) <= MOST_LETTERS else ():
         before, text = text, clean(text)
         done += [what] * (text != before)
     bare = text.strip()

@@ -133,7 +133,8 @@ class Reader:
             elif tag == "mergeCell":
                 first, _, last = element.attrib["ref"].partition(":")
                 self.budget.keep("")
-                sheet.merged.append((*place_of(first), *place_of(last or first)))
+                rows, columns = zip(place_of(first), place_of(last or first))
+                sheet.merged.append((min(rows), min(columns), max(rows), max(columns)))
         for linked in self.links_of(part).values():
             if self.roots.get(linked) == "comments":
                 sheet.comments += [place_of(each.attrib["ref"]) for each in self.tree(linked).iterfind(".//{*}comment")]

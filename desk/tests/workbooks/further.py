@@ -397,3 +397,4 @@ case("called-like-a-total", xlsx(candidates(ADA, [None, "Sum Ting", "CODE0002"],
      mistakes=[["Candidates!A3", "number is missing"]], told=[["Candidates!4", "total"]])
 case("joined-too-long", xlsx(sheet("Candidates", ["number", "Vorname", "Nachname", "code"], ["0000001", 50 * "a", 50 * "b",
      "CODE0001"])), 1, only=True, mistakes=[["Candidates!B2", "it has 101"]])
+in_candidates("string-value", ods_row(cell('office:value-type="string" office:string-value="0000001"'), *ADA[1:]), files=A, quiet=True)

@@ -4,7 +4,7 @@ import zipfile
 
 from cases import (ADA, ADA_LINE, ARRANGEMENTS, BO, BO_LINE, CANDIDATES, ENTRIES, HALLS, OPENINGS, PAPERS, SESSIONS, candidates,
                    sheet)
-from rawbook import MAIN, TIME, ods, ods_row, xlsx, zipped
+from rawbook import DATE, MAIN, TIME, ods, ods_row, xlsx, zipped
 
 CASES = []
 TWO_PAPERS = sheet("Papers", PAPERS, ["MA-1", "Maths", "S1", 90, "-"], ["FR", "French", "S1", 60, "-"])
@@ -159,6 +159,8 @@ case("minus-zero", xlsx(sheet("Arrangements", ARRANGEMENTS, ["0000001", "quiet",
      files={"arrangements": ["0000001,quiet,0"]})
 case("total-in-the-middle", xlsx(sheet("Openings", OPENINGS, ["S1", "A", 10, "12:00", "no"], [None, None, ("f", "SUM(C2)", 10), None, None],
      ["S1", "B", 5, "12:00", "no"])), 1, only=True, mistakes=[[f"Openings!{letter}3", "is missing"] for letter in "ABD"])
+case("merged-reversed", xlsx(candidates(ADA, BO, merge=["A3:A2"])), 1, mistakes=[["Candidates!A3", "hidden by the merged cells A2:A3"]])
+case("merged-reversed-columns", xlsx(candidates(["0000001", None, "CODE0001"], merge=["B2:A2"])), 1, mistakes=[["Candidates!A2", "A2:B2"]])
 case("merged-and-empty", xlsx(candidates(ADA, [], [], [], BO, merge=["A3:C3", "A4:A5"])), files={"candidates": [ADA_LINE, BO_LINE]}, quiet=True)
 case("merged-header-downwards", xlsx(candidates([], ADA, merge=["A1:A2", "B1:B2"])), files={"candidates": [ADA_LINE]}, quiet=True)
 case("numbers-by-conditions", xlsx(sheet("Openings", OPENINGS, ["S1", "A", ("n", "24", '[>100]0;0"0"'), "12:00", "no"],
@@ -211,7 +213,7 @@ case("columns-of-no-paper", xlsx(sheet("Papers", PAPERS, ["MA-1", "Maths", "S1",
      mistakes=[["Entries!2", "paper 'XX-9': is not among the papers"]])
 case("zeros-of-no-candidate", xlsx(candidates(ADA), sheet("Entries", ENTRIES, [1, "MA-1"], [9, "MA-1"])), 1, only=True,
      mistakes=[["Entries!A3", "is not among the candidates"]])
-case("notes-below-papers", xlsx(sheet("Papers", PAPERS, ["MA-1", "Maths", "S1", 90, "-"], [None, None, None, None, None, "as of May"])),
+case("notes-below-papers", xlsx(sheet("Papers", PAPERS, ["MA-1", "Maths", "S1", 90, "-"], *2 * [[None, None, None, None, None, "as of May"]])),
      files={"papers": ["MA-1,Maths,S1,90,-"]}, told=[["Papers!F3", "the column with no header is not read"]])
 case("sheet-called-as-a-header", xlsx(TWO_PAPERS, sheet("Paper", ["number", "name"], ADA[:2])),
      files={"papers": ["MA-1,Maths,S1,90,-", "FR,French,S1,60,-"], "candidates": ["0000001,Ada Lin,"]})
@@ -231,5 +233,12 @@ case("rooms-without-features", xlsx(candidates(ADA), sheet("Rooms of 2026", HALL
 case("entries-with-two-names", xlsx(TWO_PAPERS, sheet("Entries", ["number", "Vorname", "Nachname", "paper"], ["0000001", "Ada", "Lin", "MA-1"])),
      files={"papers": ["MA-1,Maths,S1,90,-", "FR,French,S1,60,-"], "entries": ["0000001,MA-1"]},
      told=[[f"Entries!{letter}1", "is not read"] for letter in "BC"])
+case("header-repeated-in-part", xlsx(candidates(ADA, ["number", None, None])), 1, mistakes=[["Candidates!A3", "number 'number'"]])
+case("day-12-beside-a-text", xlsx(sheet("Sessions", SESSIONS, ["S1", ("n", "46550", DATE), "09:00"], ["S2", "13/06/2027", "09:00"])),
+     1, mistakes=[["Sessions!B2", "2027-06-12", "a mixture"]])
+case("entries-with-crosses-beside", xlsx(TWO_PAPERS, sheet("Entries", [*ENTRIES, "Paid"], ["0000001", "MA-1", "x"])),
+     files={"papers": ["MA-1,Maths,S1,90,-", "FR,French,S1,60,-"], "entries": ["0000001,MA-1"]}, told=[["Entries!C1", "not read"]])
+case("entries-with-words-on-withdrawals", xlsx(TWO_PAPERS, sheet("Entries", [*ENTRIES, "Withdrawn"], ["0000001", "MA-1", "no"],
+     ["0000002", "MA-1", "in March"])), 1, only=True, mistakes=[["Entries!C1", "Entries!C3 seems to say"]])
 case("column-in-capitals-and-hidden", xlsx(sheet("Candidates", [*CANDIDATES, "FORM"], [*ADA, "7a"], hidden_columns=[4])), files={"candidates": [ADA_LINE]},
      told=[["Candidates!D1", "the column 'FORM' is not read"]])
