@@ -319,6 +319,17 @@ class Turns(sample.SampleSchool):
             self.assertTrue(turns.try_lock(one, fcntl.LOCK_SH))
             self.assertTrue(turns.is_free(other))
 
+    def test_a_command_keeps_nothing_while_candidates_go_first(self):
+        """`keep` takes the turn just behind the command's first look at it, and needs want.lock to serve."""
+        def look(_):
+            found.append(turns.try_lock(want))
+            fcntl.flock(want, fcntl.LOCK_UN)
+        found = []
+        with (turns.lock_file(self.value, "want.lock") as want, mock.patch("time.sleep", look),
+              mock.patch("exam_desk.turns.is_free", side_effect=[True, False, True, True]),
+              turns.alone(self.value, ["check"])):
+            self.assertEqual(found, [True])
+
     def test_a_command_lets_candidates_go_first(self):
         """No command begins while `keep` holds the lock for candidates who wait; it says behind whom it waits."""
         with mock.patch("exam_desk.turns.SILENCE", 0.1):
