@@ -241,6 +241,17 @@ class Private(Beside):
         self.environment["TMPDIR"] = os.path.join(self.folder, "elsewhere")
         os.mkdir(self.environment["TMPDIR"])
 
+    @unittest.skipUnless(os.getuid() == 0, "only root can give a folder away")
+    def test_what_is_another_users_or_a_link_stays(self):
+        place = self.environment["TMPDIR"]
+        other, link = (os.path.join(place, private.PREFIX + name) for name in ("other", "link"))
+        os.mkdir(other)
+        os.chown(other, NOBODY, NOBODY)
+        os.symlink(self.folder, link)
+        before = os.listdir(self.folder)
+        private.sweep(place)
+        self.assertEqual((os.listdir(other), os.path.islink(link), os.listdir(self.folder)), ([], True, before))
+
     def test_a_full_disk(self):
         real = private.copy_files
 
