@@ -283,12 +283,29 @@ class Private(Beside):
                 self.assertEqual(os.listdir(folder), ["lock"])
 
 
+    def test_what_tells_two_moments_apart(self):
+        """Whether the first file has another time, and the second another beginning; nothing just behind a change."""
+        path, second, changed = self.write("x.db", "x"), self.write("x.db-wal", "a" * 40), 10 ** 18
+        os.utime(path, ns=(0, changed))
+        first = private.moment(path)
+        for text, time_of, is_same in (("a" * 99, 0, True), ("a" * 40, 1, False), ("b" + "a" * 39, 0, False), ("", 0, False)):
+            self.write("x.db-wal", text)
+            os.utime(path, ns=(0, changed + time_of))
+            self.assertEqual(private.moment(path) == first, is_same, text)
+        os.remove(second)
+        self.assertNotEqual(private.moment(path), first)
+        for since, is_none in ((0, True), (19_999_999, True), (20_000_000, False), (-1, False)):
+            os.utime(path, ns=(0, changed))
+            with mock.patch("time.time_ns", return_value=changed + since):
+                self.assertEqual(private.moment(path) is None, is_none, since)
+
     def test_what_changes_meanwhile_is_copied_again(self):
         """Of the moments before and after each try the third is another one; at last there are none."""
         for moments, tries in (([None, 1, 2, 3, 3], 2), ([None] * 3, 0)):
             target = os.path.join(self.folder, f"copy{tries}")
             with (mock.patch("exam_desk.private.moment", side_effect=moments), mock.patch("exam_desk.private.PAUSE", 0),
-                  mock.patch("exam_desk.private.TRIES", 3), mock.patch("exam_desk.private.copy_still") as copied,
+                  mock.patch("exam_desk.private.TRIES", 3),
+                  mock.patch("exam_desk.private.copy_still", side_effect=lambda _, new: open(new, "xb").close()) as copied,
                   contextlib.suppress(OSError) if tries else self.assertRaisesRegex(OSError, "changes all the time")):
                 private.copy_files(self.path, target)
             self.assertEqual(copied.call_count, tries)
