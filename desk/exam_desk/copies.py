@@ -172,11 +172,10 @@ def state_of(copy: str) -> str:
 
 
 def check(office: Office, path: str) -> None:
-    """Raises `Trouble` where a file is no good office; one of an earlier version is tested by a `migrate` of a copy."""
+    """Raises `Trouble` where a private copy is no good office; one of an earlier version is carried over."""
     said = running.run_over(office, path, "check")
     if said.complaint.startswith("refused 27"):
-        with private.private_copy(path, office.path) as copy:
-            said = running.run_over(office, copy, "migrate")
+        said = running.run_over(office, path, "migrate")
     if said.status != 0:
         raise Trouble(f"this copy is no good office ({(said.answer + said.complaint).strip()}); nothing is changed")
 

@@ -155,6 +155,15 @@ class Copies(Beside):
             self.assertEqual([back.copy, first], copies.listed(self.value))
             self.assertEqual([copies.keep_copy(self.value, "reinstate")], copies.listed(self.value))
 
+    def test_a_second_file_without_a_change_is_none(self):
+        copy = copies.keep_copy(self.value, "withdraw")
+        with contextlib.suppress(FileNotFoundError):
+            os.remove(copies.file_in(self.value, copy) + "-wal")
+        self.write("office.db-wal", bytes(copies.EMPTY_LOG))
+        self.assertTrue(copies.is_as_now(self.value, copy))
+        self.write("office.db-wal", bytes(copies.EMPTY_LOG + 1))
+        self.assertFalse(copies.is_as_now(self.value, copy))
+
     def test_a_copy_of_1_0_0_is_put_back(self):
         before = self.office("export", "MON-AM")
         self.office("withdraw", "0001000", "MA-1")
@@ -416,6 +425,14 @@ class Back(Beside):
             self.assertIn(said, process.communicate("y\n")[1])
             self.assertEqual((process.returncode, snapshot.name_now(self.value), len(self.log())), (1, before, log))
         self.assertIn("the office is as it was", self.office("back", "2", stdin="y\n"))
+
+    def test_whose_candidates_are_others_may_be_another_schools(self):
+        """Where fewer than half of the 60 are alike, in name or code."""
+        copy = copies.keep_copy(self.value, "withdraw")
+        for others, is_other in ((30, False), (31, True)):
+            self.change("UPDATE candidate SET name = 'x', code = 'X' || number WHERE number IN "
+                        "(SELECT number FROM candidate ORDER BY number LIMIT ?)", others)
+            self.assertEqual(copies.OTHERS in [said.text for said in copies.losses(self.value, copy)], is_other)
 
     def test_an_office_that_cannot_be_read(self):
         self.office("withdraw", "0001017", "MA-1")

@@ -122,7 +122,7 @@ class Words(sample.SampleSchool):
         for words, mode, folder, is_said in (
                 (["printed", "MON-AM", "--look"], 0o604, 0o755, True),  # needs and extra time, before and now
                 (["slips", "--codes"], 0o644, 0o755, True), (["doors", "MON-AM"], 0o640, 0o755, True),
-                (["look", "1051"], 0o600, 0o755, False), (["look", "1051"], 0o644, 0o700, False),
+                (["look", "1051"], 0o600, 0o755, False), (["look", "1051"], 0o644, 0o700, False), (["look", "1051"], 0o640, 0o710, True),
                 (["look", "1051"], 0o604, 0o755, True), (["poster", "MON-AM"], 0o644, 0o755, False)):
             os.chmod(self.folder, folder)
             path = self.write("page.html", "")

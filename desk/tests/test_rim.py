@@ -327,8 +327,9 @@ class Turns(sample.SampleSchool):
         found = []
         with (turns.lock_file(self.value, "want.lock") as want, mock.patch("time.sleep", look),
               mock.patch("exam_desk.turns.is_free", side_effect=[True, False, True, True]),
-              turns.alone(self.value, ["check"])):
+              turns.alone(self.value, ["check", "it"])):
             self.assertEqual(found, [True])
+            self.assertEqual(beside.text_of(self.path, "want.lock").strip(), f"process {os.getpid()}, check it")
 
     def test_a_command_lets_candidates_go_first(self):
         """No command begins while `keep` holds the lock for candidates who wait; it says behind whom it waits."""
