@@ -128,7 +128,7 @@ class TestTaken(Backups):
         self.refuses(backups.ALONE, zipped({"office.db": first}))
         self.assertFalse(os.path.exists(self.path + "-wal"))  # of such an office a backup is whole all the same
         with self.brought(private.zipped(self.path, "x", lambda folder: backups.fill(self.value, folder))) as (_, found):
-            self.assertEqual(pathlib.Path(found["office.db-wal"]).read_bytes(), b"")
+            self.assertIn("office.db", found)
 
     def test_an_office_of_an_earlier_version_is_carried_over(self):
         with contextlib.closing(sqlite3.connect(self.path)) as file:
