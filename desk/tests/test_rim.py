@@ -208,6 +208,15 @@ class Closed(sample.SampleSchool):
             done = subprocess.run(line, env=self.environment, capture_output=True, encoding="utf-8", check=False)
             self.assertEqual((done.returncode, done.stderr), (status, said))
 
+    def test_a_signal_that_nohup_ignores_ends_nothing(self):
+        self.office("withdraw", "0001000", "MA-1")
+        line = ["sh", "-c", "trap '' HUP; exec \"$@\"", "sh", sample.DESK / "office", "back", "1"]
+        with subprocess.Popen(line, env=self.environment, stdin=subprocess.PIPE, stdout=subprocess.PIPE,
+                              stderr=subprocess.PIPE, text=True) as process:
+            self.assertTrue(process.stdout.read(1))  # it asks
+            process.send_signal(signal.SIGHUP)
+            self.assertEqual((process.communicate("n\n")[1], process.returncode), ("office: nothing is changed\n", 1))
+
     def test_what_has_no_room_beside_the_office_is_not_the_output(self):
         line = ["sh", "-c", 'ulimit -f 0; exec "$@"', "sh", sample.DESK / "office", "school", "Hill School"]
         done = subprocess.run(line, env=self.environment, capture_output=True, encoding="utf-8", check=False)
