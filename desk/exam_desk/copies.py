@@ -141,7 +141,7 @@ def chosen(office: Office, number: int) -> str:
     return found[number - 1]
 
 
-def prune(office: Office, used: str) -> None:
+def prune(office: Office, used: str = "") -> None:
     """Removes the oldest copies: what is beyond MOST_COPIES, or beyond MOST_BYTES in all; the last one stays, and one
     that is used."""
     room = MOST_BYTES
