@@ -2,11 +2,12 @@
 imports of what was read from a workbook, or from a folder of import files."""
 from __future__ import annotations
 
+import os
 import secrets
 from collections.abc import Mapping
 from typing import TYPE_CHECKING
 
-from exam_desk import files, lists, mistakes, snapshot
+from exam_desk import facts, files, lists, mistakes, snapshot
 from exam_desk.changing import Step
 from exam_desk.office import Office, NoCandidate, Trouble
 
@@ -49,7 +50,10 @@ def filled(rows: list[list[str]], known: Mapping[str, str]) -> tuple[list[list[s
 def coded(office: Office, path: str, new: list[str]) -> tuple[list[list[str]], int, int]:
     """The rows of a file, each with a code: its own, else that of the office, else a new one, as those get who are to
     have a new one; how many are new, and how many are the office's. Raises `Trouble` as `read`."""
-    rows, known = read(files.read(path, office.warn), path), in_office(office)
+    rows, known = read(files.read(path, office.warn), path), dict[str, str]()
+    if os.path.exists(office.path):
+        with snapshot.rows(office) as connection:
+            known = facts.access_codes(connection)
     if missing := [number for number in new if number not in {row[0] for row in rows}]:
         raise Trouble(f"{missing[0]} is not in {path}")
     empty = [[number, name, "" if number in new else code] for number, name, code in rows]
