@@ -33,6 +33,12 @@ class Faults(unittest.TestCase):
                 command.tell(type(fault), fault, None)
             self.assertEqual(out.getvalue(), f"office: {said}\n")
 
+    def test_the_log_has_who_gave_a_command_by_sudo(self):
+        with mock.patch("exam_desk.beside.user_name", return_value="examoffice"), mock.patch.dict(os.environ, SUDO_USER="ada"):
+            self.assertEqual(command.user(), "ada as examoffice")
+            del os.environ["SUDO_USER"]
+            self.assertEqual(command.user(), "examoffice")
+
 
 class Words(sample.SampleSchool):
     def test_both_kinds_of_commands_are_listed(self):
