@@ -336,6 +336,12 @@ class Log(Beside):
         self.assertEqual([line for line in self.log()[1:] if line[1] != "begins"], [
             [" ".join(words), "1", "broken off"], [" ".join(words), "1", "stopped: look whether it is done"]])
 
+    def test_a_lodging_without_an_end_is_nothing_that_was_broken_off(self):
+        """It goes the candidates' way, beside changes: one that is under way is no change that was killed."""
+        for command, is_one in ("lodge", False), ("withdraw", True):
+            logbook.write(self.value, [command, "0001051", "MON-AM", "hall", "PC1", "a draught"], logbook.BEGINS, "")
+            self.assertEqual(logbook.unfinished(self.value) is not None, is_one)
+
     def test_a_copy_says_what_it_is_from_before(self):
         """In the words of the log, cut between two words where they are many; the name of its folder has fewer letters."""
         said = "import halls é.csv for A B: C .., import openings x_1.csv for S1 A"
