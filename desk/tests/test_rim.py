@@ -234,6 +234,17 @@ class Closed(sample.SampleSchool):
 
 
 class Strangers(sample.SampleSchool):
+    def test_what_a_command_makes_is_for_its_user_alone(self):
+        """Whatever it may leave open to others by the umask that it is begun with."""
+        os.mkdir(place := os.path.join(self.folder, "new"))
+        for words in ["init"], ["school", "Hill"], ["import", "sessions", sample.TOP / "examples/sessions.csv"], ["look", "Ada"]:
+            subprocess.run([sample.DESK / "office", *words], env={**self.environment, "OFFICE": f"{place}/office.db"},
+                           umask=0, stdout=subprocess.DEVNULL, stderr=subprocess.DEVNULL, check=False)
+        found = [path for folder, folders, names in os.walk(place) for path in (
+            os.path.join(folder, name) for name in [*folders, *names])]
+        self.assertGreater(len(found), 9)
+        self.assertEqual([path for path in found if os.stat(path).st_mode & 0o077], [])
+
     def test_a_folder_in_which_others_may_write(self):
         os.mkdir(self.desk)
         for mode, words in ((0o777, ["withdraw", "0001000", "MA-1"]), (0o770, ["keep", "start", "8080"]), (0o702, ["check"]),
