@@ -237,7 +237,7 @@ class Strangers(sample.SampleSchool):
     def test_what_a_command_makes_is_for_its_user_alone(self):
         """Whatever it may leave open to others by the umask that it is begun with."""
         os.mkdir(place := os.path.join(self.folder, "new"))
-        for words in ["init"], ["school", "Hill"], ["import", "sessions", sample.TOP / "examples/sessions.csv"], ["look", "Ada"]:
+        for words in ["init"], ["school", "Hill"], ["close-hall", "MON-AM", "GYM"], ["dump", f"{place}/rows"]:
             subprocess.run([sample.DESK / "office", *words], env={**self.environment, "OFFICE": f"{place}/office.db"},
                            umask=0, stdout=subprocess.DEVNULL, stderr=subprocess.DEVNULL, check=False)
         found = [path for folder, folders, names in os.walk(place) for path in (
