@@ -334,6 +334,12 @@ class Turns(sample.SampleSchool):
     def test_a_lock_that_is_not_there_is_free(self):
         self.assertEqual((turns.is_taken(self.value, "want.lock"), beside.text_of(self.path, "want.lock")), (False, ""))
 
+    def test_of_a_long_file_the_end_is_looked_at(self):
+        os.mkdir(self.desk, 0o700)
+        self.write("desk-office.db/log", "abcdefgh")
+        with mock.patch.object(beside, "LAST_BYTES", 4):
+            self.assertEqual(beside.text_of(self.path, "log"), "efgh")
+
     def test_whoever_looks_takes_nothing_from_another_who_looks(self):
         with turns.lock_file(self.value, "turn.lock") as one, turns.lock_file(self.value, "turn.lock") as other:
             self.assertTrue(turns.try_lock(one, fcntl.LOCK_SH))
