@@ -16,7 +16,7 @@ import zlib
 from collections.abc import Iterator
 from typing import IO
 
-from exam_desk import beside, copies, files, logbook, notebook, private, running
+from exam_desk import beside, copies, files, logbook, notebook, private
 from exam_desk.office import Office, Trouble
 from exam_desk.workbook.cells import PASSWORD
 
