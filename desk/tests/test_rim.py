@@ -415,15 +415,17 @@ class Answering(sample.SampleSchool):
             keep = keeping.Keep(self.value, str(sample.free_port()), lock)
             served = asyncio.create_task(keep.run())
             answer = asyncio.create_task(keep.hold.answer(b"GET / HTTP/1.0\r\n\r\n"))
-            async with asyncio.timeout(sample.PATIENCE):
-                while turns.is_free(turn):
-                    await asyncio.sleep(0.02)
-                want.close()
-                self.assertTrue((await answer).endswith(b'{"error":37}'))
-                while not turns.is_free(turn):
-                    await asyncio.sleep(0.02)
-            keep.end()
-            await served
+            try:
+                async with asyncio.timeout(sample.PATIENCE):
+                    while turns.is_free(turn):
+                        await asyncio.sleep(0.02)
+                    want.close()
+                    self.assertTrue((await answer).endswith(b'{"error":37}'))
+                    while not turns.is_free(turn):
+                        await asyncio.sleep(0.02)
+            finally:
+                keep.end()
+                await served
 
 
 class Days(sample.SampleSchool):
