@@ -336,6 +336,13 @@ class Log(Beside):
         self.assertEqual([line for line in self.log()[1:] if line[1] != "begins"], [
             [" ".join(words), "1", "broken off"], [" ".join(words), "1", "stopped: look whether it is done"]])
 
+    def test_nothing_in_a_line_is_a_line_or_a_column(self):
+        """The name of a file that a browser brings can hold all letters."""
+        forged = "take a\t0\tdone\n2027-01-01 00:00:00\troot\tinit\t0\tready\x1b[2J\u2028\u202e"
+        logbook.write(self.value, [forged], 0, forged)
+        shown = "take a?0?done?2027-01-01 00:00:00?root?init?0?ready?[2J??"
+        self.assertEqual(self.log(), [[shown, "0", shown]])
+
     def test_a_lodging_without_an_end_is_nothing_that_was_broken_off(self):
         """It goes the candidates' way, beside changes: one that is under way is no change that was killed."""
         for command, is_one in ("lodge", False), ("withdraw", True):
@@ -420,17 +427,36 @@ class Back(Beside):
         self.assertEqual(self.log()[-1][1:], ["0", "; ".join([self.log()[-1][2].split("; ")[0],
                                                               *(line.removeprefix("taken away: ") for line in lines)])])
 
-    def test_nothing_is_done_where_more_came_or_somebody_changed_the_office(self):
+    def answer(self, process):
+        process.stdin.write("y\n")
+        process.stdin.flush()
+
+    def test_it_asks_again_where_more_came(self):
         self.office("withdraw", "0001017", "MA-1")
-        for change, said in ((lambda: self.change(APPEAL, "HA1"), "other appeals or decisions would be taken away by now"),
-                             (lambda: self.office("withdraw", "0001000", "MA-1"), "the office has changed since you looked")):
-            process = self.ask()
-            self.question(process)
-            change()
-            before, log = snapshot.name_now(self.value), len(self.log())
-            self.assertIn(said, process.communicate("y\n")[1])
-            self.assertEqual((process.returncode, snapshot.name_now(self.value), len(self.log())), (1, before, log))
-        self.assertIn("the office is as it was", self.office("back", "2", stdin="y\n"))
+        process = self.ask()
+        self.assertNotIn("taken away", self.question(process))
+        self.change(APPEAL, "HA1")
+        self.answer(process)
+        first = "taken away: appeal 0001051 HA1 for MON-AM: open -> gone\n"
+        again = "the office has changed since the question, and nothing is done yet: put back the office of "
+        self.assertIn(first + again, self.question(process))
+        self.change(APPEAL, "HA2")
+        self.answer(process)
+        self.assertIn(first + first.replace("HA1", "HA2") + again, self.question(process))
+        self.assertEqual(process.communicate("\n")[1], "office: nothing is changed\n")
+        self.assertEqual(len(self.log()), 2)
+        self.assertIn("the office is as it was", self.office("back", "1", stdin="y\n"))
+
+    def test_it_asks_again_where_somebody_changed_the_office(self):
+        self.office("withdraw", "0001017", "MA-1")
+        process = self.ask()
+        self.question(process)
+        self.office("withdraw", "0001000", "MA-1")
+        before, log = snapshot.name_now(self.value), len(self.log())
+        self.answer(process)
+        self.assertIn("changed since the question, and nothing is done yet: put back the office of ", self.question(process))
+        self.assertEqual(process.communicate("\n")[1], "office: nothing is changed\n")
+        self.assertEqual((snapshot.name_now(self.value), len(self.log())), (before, log))
 
     def test_whose_candidates_are_others_may_be_another_schools(self):
         """Where fewer than half of the 60 are alike, in name or code."""

@@ -434,6 +434,13 @@ class Answering(sample.SampleSchool):
                 await served
 
 
+class Lodged(sample.KeptSchool):
+    def test_keep_lodges_nothing_with_another_day(self):
+        said = self.refused("lodge", "0001051", "MON-AM", "hall", "PC1", "", TODAY="2027-05-02")
+        self.assertEqual(said, "office: `keep` serves with the day 2027-05-01, and this is to be lodged on 2027-05-02: "
+                               "`office keep stop`, or leave TODAY out\n")
+
+
 class Days(sample.SampleSchool):
     def test_only_days_are_removed(self):
         days = os.path.join(self.desk, "days")
