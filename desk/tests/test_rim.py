@@ -343,8 +343,7 @@ class Turns(sample.SampleSchool):
     def test_of_a_long_file_the_end_is_looked_at(self):
         os.mkdir(self.desk, 0o700)
         self.write("desk-office.db/log", "abcdefgh")
-        with mock.patch.object(beside, "LAST_BYTES", 4):
-            self.assertEqual(beside.text_of(self.path, "log"), "efgh")
+        self.assertEqual(beside.text_of(self.path, "log", 4), "efgh")
 
     def test_whoever_looks_takes_nothing_from_another_who_looks(self):
         with turns.lock_file(self.value, "turn.lock") as one, turns.lock_file(self.value, "turn.lock") as other:
