@@ -33,6 +33,12 @@ class Faults(unittest.TestCase):
                 command.tell(type(fault), fault, None)
             self.assertEqual(out.getvalue(), f"office: {said}\n")
 
+    def test_the_log_has_who_gave_a_command_by_sudo(self):
+        with mock.patch("exam_desk.beside.user_name", return_value="examoffice"), mock.patch.dict(os.environ, SUDO_USER="ada"):
+            self.assertEqual(command.user(), "ada as examoffice")
+            del os.environ["SUDO_USER"]
+            self.assertEqual(command.user(), "examoffice")
+
 
 class Words(sample.SampleSchool):
     def test_both_kinds_of_commands_are_listed(self):
@@ -120,9 +126,10 @@ class Words(sample.SampleSchool):
         is_open = all(above.stat().st_mode & 0o011 for above in pathlib.Path(self.folder).parents)
         self.office("printed", "MON-AM")
         for words, mode, folder, is_said in (
-                (["printed", "MON-AM", "--look"], 0o604, 0o755, True),  # needs and extra time, before and now
+                *(([*words], 0o604, 0o755, True) for words in (  # with needs, notes or reasons
+                    ["printed", "MON-AM", "--look"], ["changes", self.path], ["why", "MON-AM"], ["notes"], ["appeals-open"])),
                 (["slips", "--codes"], 0o644, 0o755, True), (["doors", "MON-AM"], 0o640, 0o755, True),
-                (["look", "1051"], 0o600, 0o755, False), (["look", "1051"], 0o644, 0o700, False),
+                (["look", "1051"], 0o600, 0o755, False), (["look", "1051"], 0o644, 0o700, False), (["look", "1051"], 0o640, 0o710, True),
                 (["look", "1051"], 0o604, 0o755, True), (["poster", "MON-AM"], 0o644, 0o755, False)):
             os.chmod(self.folder, folder)
             path = self.write("page.html", "")

@@ -66,6 +66,12 @@ class There(SecondSitting):
         self.assertEqual(first.count("stay with them: MA-1 at 10:30 in R14"), 1)
         self.assertIn("watched since 10:30, comes from R14", second)
         self.assertNotIn("stay with", second)
+        self.office("printed", "MON-AM")
+        self.office("open-hall", "MON-AM-2", "GYM", "1", "24:00")
+        lost = self.run_office("close-hall", "MON-AM-2", "R14")
+        self.assertIn("1 session has printed papers that are out of date: MON-AM (doors of R14)\n", lost.stderr)
+        self.assertIn("elsewhere stay with them: MA-1 at 10:30 in R14 -> stay with them: MA-1 at 10:30 in GYM\n"
+                      "to print again: doors of R14\n", self.office("printed", "MON-AM", "--look"))
         listed = self.run_office("absent", "MON-AM", TODAY="2027-06-07")
         self.assertIn("NOTE MA-1 is sat in MON-AM-2 too: `office absent MON-AM-2` lists it\n", listed.stderr)
 
@@ -229,7 +235,12 @@ class There(SecondSitting):
                       "MON-AM-2\n", said)
 
     def test_others_in_the_hall_are_noted(self):
+        self.office("printed", "MON-PM")
         said = self.second("0000003", "MA-1", "12:30", "GYM")
+        self.assertIn("  MON-PM (doors, poster of GYM): ", said)
+        self.assertRegex(self.office("printed", "MON-PM", "--look"),
+                         "^GYM: other sessions - -> also here from 13:30 to 14:30: session MON-AM-2, .*\nto print again: "
+                         "doors, poster of GYM\n$")
         self.assertIn("1 hall has candidates of two sessions at one time\n"
                       "  MON-AM-2 and MON-PM in GYM: both number their desks from 1\n", said)
         self.assertNotIn("NOTE", said)
