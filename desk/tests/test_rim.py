@@ -140,6 +140,12 @@ class Door(unittest.TestCase):
             door.over.clear()
         self.assertEqual(door.fault, "serve begins anew after an answer 500")
 
+    def test_how_much_of_a_body_is_waited_for(self):
+        """Nothing, where `serve` refuses the request by its head."""
+        for lengths, found in (([], 0), ([b"4096"], 4096), ([b" 7\t"], 7), ([b"4097"], 0), ([b"5", b"5"], 0), ([b"+5"], 0)):
+            head = b"".join([b"POST / HTTP/1.1", *(b"\r\ncontent-LENGTH:" + length for length in lengths), hold.END])
+            self.assertEqual(hold.body_length(head), found, lengths)
+
     def test_no_answer_at_all(self):
         with mock.patch.object(hold, "GAP_SECONDS", 0.1):
             self.assertRegex(asyncio.run(self.given(hold.Hold(), *[OSError()] * 99)), b"^HTTP/1.1 504 Gateway Timeout\r\n")
@@ -337,8 +343,7 @@ class Turns(sample.SampleSchool):
     def test_of_a_long_file_the_end_is_looked_at(self):
         os.mkdir(self.desk, 0o700)
         self.write("desk-office.db/log", "abcdefgh")
-        with mock.patch.object(beside, "LAST_BYTES", 4):
-            self.assertEqual(beside.text_of(self.path, "log"), "efgh")
+        self.assertEqual(beside.text_of(self.path, "log", 4), "efgh")
 
     def test_whoever_looks_takes_nothing_from_another_who_looks(self):
         with turns.lock_file(self.value, "turn.lock") as one, turns.lock_file(self.value, "turn.lock") as other:
