@@ -375,7 +375,8 @@ class Commands(sample.SampleSchool):
         self.assertIn("nobody noted", self.refused("printed", "TUE-PM", "--look"))
         self.office("printed", "TUE-PM")
         self.assertEqual(self.office("printed", "TUE-PM", "--look"), "the papers are up to date\n")
-        self.office("import", "entries", self.write("new.csv", "number,paper\n0001051,ART\n"))
+        told = self.run_office("import", "entries", self.write("new.csv", "number,paper\n0001051,ART\n")).stderr
+        self.assertIn("out of date: TUE-PM (board, counts, slips)\n", told)
         self.assertEqual(self.office("printed", "TUE-PM", "--look"), "0001051 Di Berg: not on paper -> no desk\n"
                          "to print again: board, counts, slips\n")
 
