@@ -55,7 +55,7 @@ def read_source(office: Office, given: Namespace) -> Job:
     return job
 
 
-@command.named("""Makes import files from a workbook, or from files that a spreadsheet broke: read WORKBOOK|FOLDER [NEW]
+@command.named("""Makes import files from a workbook, or from files that a spreadsheet broke: read WORKBOOK [NEW], mend FOLDER [NEW]
 
     office read school.xlsx     makes the folder school, with sessions.csv, papers.csv and so on
     office read students.csv new --columns columns.toml
@@ -111,7 +111,8 @@ It reads sessions.csv, papers.csv, halls.csv, openings.csv, candidates.csv, arra
 are there, and the office's file if there is one. Each mistake is a line: file, line, value, cure. What the program
 takes, though it may be wrong, is a note. Candidates without an access code are counted in one line. Where nothing is
 wrong it imports them into a private copy of the office, and notes who would lose a desk, miss a paper, sit otherwise or
-be in two sessions at one time. The status is 1 if `office import` would refuse a file.
+be in two sessions at one time. The status is 1 if `office import` would refuse a file. `office mend` takes back most of
+what a spreadsheet broke.
 """)
 def check_files(parser: command.Parser) -> bool:
     from exam_desk import checking, lists
@@ -143,11 +144,12 @@ def codes(parser: command.Parser) -> command.Plan:
                         help="who of the file gets another code")
     parser.add_argument("--output", metavar="FILE", help="the new file, CANDIDATES-with-codes.csv if not given")
     given = parser.parse_args()
-    if given.words and typed.is_right("number", given.words[0]):
+    is_number = given.words != [] and typed.is_right("number", given.words[0])
+    if is_number and not (given.new or given.output):
         step, state = coding.other_rows(command.office(), given.words)
         return programs.Change(steps=[step], title=" ".join(["codes", *given.words]), made_for=state)
     path, *more = given.words or ["candidates.csv"]
-    if more:
+    if more or is_number:
         parser.error("name one file, or numbers alone")
 
     def write() -> None:

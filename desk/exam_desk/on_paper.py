@@ -2,10 +2,10 @@
 import hashlib
 import itertools
 import re
-from collections.abc import Iterable, Mapping
-from typing import NamedTuple
+from collections.abc import Collection, Iterable, Mapping
+from typing import Any, NamedTuple
 
-from exam_desk import facts, lists, logbook, notebook, words
+from exam_desk import facts, lists, logbook, notebook, overlaps, second_sitting, words
 from exam_desk.office import Office
 from exam_desk.reading import Reading
 from exam_desk.sheets import PAPERS
@@ -31,6 +31,7 @@ class Line(NamedTuple):
     extra: str = ""
     misses: str = ""
     note: str = ""  # as `sum_of` has it
+    elsewhere: str = ""  # what invigilators are to know of other sessions; "" in files of earlier versions
 
 
 class Move(NamedTuple):
@@ -78,18 +79,25 @@ def noted(office: Office, session: str) -> Printed:
     found = notebook.read(office, f"printed.{session}") or {}
     found.pop(NOTED, None)
     common = {what: parts[0] for what, parts in found.items() if OF in what}
-    lines = {number: Line._make([*parts[:-1], sum_of(parts[-1])]) if len(parts) == len(Line._fields) else
-             Line(*parts[:2]) for number, parts in found.items() if number not in common}
-    return Printed(lines, common)
+    return Printed({number: line_of(parts) for number, parts in found.items() if number not in common}, common)
 
 
-def lines_of(reading: Reading, session: str) -> dict[str, Line]:
-    """What papers of a session show of its members; nothing where there is no such session."""
-    notes, missed = notebook.notes(reading.office), reading.clashes(session)
+def line_of(parts: list[Any]) -> Line:
+    """What a file says of somebody; files of earlier versions have less."""
+    line = Line(*parts[:2]) if len(parts) < len(Line._fields) - 1 else Line(*parts[:len(Line._fields)])
+    return line._replace(note=sum_of(line.note))
+
+
+def lines_of(reading: Reading, session: str, among: Collection[str] | None = None) -> dict[str, Line]:
+    """What papers of a session show of some candidates, or of all members; nothing where there is no such session."""
+    notes, members = notebook.notes(reading.office), reading.members(
+        session, facts.entered(reading.rows, session, 1, among))
+    missed = reading.clashes(session, facts.entered(reading.rows, session, 2, among))
+    elsewhere = second_sitting.elsewhere(reading, members)
     return {number: Line(sits.hall or "", sits.desk or 0, name, sits.paper, sits.date, sits.start, sits.finish,
                          "+".join(sits.needs), str(sits.extra), "+".join(missed.get(number, ())),
-                         sum_of(notes.get(number, "")))
-            for number, name, sits in reading.members(session, facts.entered(reading.rows, session))}
+                         sum_of(notes.get(number, "")), "; ".join(elsewhere[number]))
+            for number, name, sits in members}
 
 
 def sum_of(note: str) -> str:
@@ -108,9 +116,11 @@ def shared(reading: Reading, session: str) -> dict[str, str]:
     """As `of_notebook`, with what papers of a session show of papers and halls."""
     found = of_notebook(reading.office)
     found |= {f"{paper}{OF}paper title": title for paper, title in facts.paper_titles(reading.rows).items()}
+    others = overlaps.in_halls(reading, session)
     for each in facts.openings(reading.rows, session):
         found |= {f"{each.hall}{OF}hall title": each.title, f"{each.hall}{OF}desks": str(each.desks),
-                  f"{each.hall}{OF}open until": words.clock(each.until)}
+                  f"{each.hall}{OF}open until": words.clock(each.until),
+                  f"{each.hall}{OF}other sessions": "; ".join(others.get(each.hall, []))}
     return found
 
 

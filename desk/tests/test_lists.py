@@ -279,6 +279,8 @@ class Lists(sample.SampleSchool):
         self.assertEqual(other["0001068"], known["0001068"])
         self.assertFalse({other["0001051"], other["0001085"]} & {*known.values(), *codes.values()})
         self.assertIn("0001000 is not in", self.refused("codes", path, "--output", "q.csv", "--new", "0001000"))
+        for words in (["1051", "--new", "1068"], ["1051", "--output", "q.csv"], [path, "1051"]):  # nobody else's are left out
+            self.assertIn("name one file, or numbers alone", self.run_office("codes", *words).stderr)
         self.assertIn("line 1 must be: number,name,code", self.refused("codes", self.write("bad.csv", "number\n")))
         self.assertEqual(self.run_office("codes", path, "1051").returncode, 2)
 
@@ -294,6 +296,8 @@ class Lists(sample.SampleSchool):
         self.assertEqual([name for name in os.listdir(self.folder) if name.endswith(".csv")], [])
         self.assertRegex(self.office("back"), "before codes 0001051\n")
         self.assertIn("the office has no candidate 0009999", self.refused("codes", "1051", "9999"))
+        with mock.patch("secrets.choice", side_effect="WK3DEGZDPC" + "D" * 10):  # the code of 0001000
+            self.assertIn(b'"Di Berg","DDDDDDDDDD"', coding.other_rows(self.value, ["0001051"]).data)
 
     def faults(self, session, change=lambda sheet: sheet):
         with Reading(self.value) as reading:

@@ -389,7 +389,8 @@ class Commands(sample.SampleSchool):
                 (("import", "arrangements", self.write("a.csv", "number,needs,extra\n0001306,-,10\n")),
                  "finish 10:30 -> 10:39, extra 0 -> 10"),  # 90 minutes from 09:00, and 9 more
                 (("import", "sessions", self.write("s.csv", "session,date,start\nMON-AM,2027-06-08,08:30\n")),
-                 "date 2027-06-07 -> 2027-06-08, start 09:00 -> 08:30, finish 10:39 -> 10:09")):
+                 "date 2027-06-07 -> 2027-06-08, start 09:00 -> 08:30, finish 10:39 -> 10:09, "
+                 "elsewhere - -> sits TUE-AM from 09:00, in [A-Z0-9]+")):  # until 10:09 they sit both
             self.office("printed", "MON-AM")
             self.assertEqual(self.office("printed", "MON-AM", "--look"), "the papers are up to date\n")
             self.office(*words)
@@ -460,7 +461,7 @@ class Commands(sample.SampleSchool):
         self.write("notes.csv", f"number,text\n{number},two\n")
         self.office("notes", notes)
         held = json.loads(printed.read_bytes())
-        held[number][-1] = "two"
+        held[number][-2:] = ["two"]  # without what stands behind it today
         printed.write_text(json.dumps(held), "ascii")
         self.assertEqual(self.office("printed", "MON-AM", "--look"), "the papers are up to date\n")
 

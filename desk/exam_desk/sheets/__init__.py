@@ -12,19 +12,19 @@ class Paper(NamedTuple):
 
 
 PAPERS = {  # by the commands that print them
-    "doors": Paper("Invigilators' sheets", "left, desk, name, paper, finish, needs, extra, misses, note, paper title, "
-                   "desks, open until, school: name", """\
+    "doors": Paper("Invigilators' sheets", "left, desk, name, paper, finish, needs, extra, misses, note, elsewhere, "
+                   "paper title, desks, open until, other sessions, school: name", """\
 By desk the number, name, paper, finish, arrangement and note of each candidate, and a box to sign. It is private: the
 door gets `office poster`, and candidates sign `office signatures`."""),
     "signatures": Paper("Lists to sign", "left, desk, name, paper, school: name", """\
 By desk number, name and paper of each candidate, and a box to sign. It shows no arrangement, note or finish.""",
                         style="doors"),
-    "poster": Paper("Posters", "left, desk, name, school: name", """\
+    "poster": Paper("Posters", "left, desk, name, other sessions, school: name", """\
 A heading that is read from afar, and by name the desk of each candidate. Only namesakes of the session, in whichever
 halls, have their numbers beside the name. It shows no paper and no arrangement."""),
     "cards": Paper("Desk cards", "left, desk, name, paper, paper title", """\
 Ten on a sheet, by hall and desk: desk, name, number, paper, start and hall."""),
-    "chart": Paper("Seating charts", "left, desk, name, paper, desks, rows, school: name", """\
+    "chart": Paper("Seating charts", "left, desk, name, paper, desks, rows, other sessions, school: name", """\
 Each hall as rows of desks, with the name, number and paper of who sits there. `office rows GYM 8` says once how the
 desks of a hall stand. A line says of which halls there is no chart yet."""),
     "board": Paper("Notice board", "left, desk, name, school: name", """\

@@ -1,7 +1,6 @@
 """The papers of a session: a notice board, posters, desk cards, seating charts, copies to print, lists to sign,
 invigilators' sheets. Besides, who must be told of changes."""
 import functools
-import sqlite3
 import unicodedata
 from collections import Counter, defaultdict
 from collections.abc import Collection, Iterable, Iterator, Mapping, Sequence
@@ -186,31 +185,15 @@ def signatures(of: Session) -> Iterator[Markup]:
 
 def doors(of: Session) -> Iterator[Markup]:
     """Invigilators' sheets, by desk. Each page is a table, whose heading says which it is."""
-    notes, missed, starts = notebook.notes(of.office), of.reading.clashes(of.code), overlaps.starts(of.reading)
+    notes, missed = notebook.notes(of.office), of.reading.clashes(of.code)
     papers, titles = paper_names(of.rows, CODE), paper_names(of.rows, HEADED)
-    made = {second["code"]: first for first, second in second_sitting.pairs(of.rows)}
+    elsewhere = second_sitting.elsewhere(of.reading, of.members)
     for opening, there in of.halls:
         found = [row_of(of, member, papers[member.sitting.paper], member.number in notes, [
             *filter(None, [lists.allowance(member.sitting), notes.get(member.number)]),
             *(f"does not sit {paper}" for paper in missed.get(member.number, ())),
-            *elsewhere(made, starts, member.sitting, of.reading.all_of(member.number).values())]) for member in there]
+            *elsewhere[member.number]]) for member in there]
         yield from of_door(of, titles, opening, there, found)
-
-
-def elsewhere(made: Mapping[str, sqlite3.Row], starts: Mapping[str, int], sits: Sitting, all_of: Collection[Sitting]
-              ) -> Iterator[str]:
-    """What invigilators must know: what somebody sits in another session at that time; and where a second sitting is
-    behind this one, or is this one, that somebody stays with them in between."""
-    beside, mine = overlaps.beside(starts, sits, all_of), made.get(sits.paper)
-    for other in all_of:
-        first, where = made.get(other.paper), other.hall or "no hall yet"
-        if other in beside:
-            when = f"until {other.finish}" if starts[other.session] < starts[sits.session] else f"from {other.start}"
-            yield f"sits {other.session} {when}, in {where}"
-        if first and first["session"] == sits.session:
-            yield f"stay with them: {first['code']} at {other.start} in {where}"
-        elif mine and mine["session"] == other.session:
-            yield f"watched since {other.finish}, comes from {other.hall or 'no hall'}"
 
 
 def of_door(of: Session, titles: Mapping[str, Markup], opening: facts.Opening, members: list[Member],
