@@ -243,6 +243,8 @@ class Commands(sample.SampleSchool):
             self.assertEqual(notebook.absent(office, "MON-AM"), set())
             note([two])
             self.assertEqual(notebook.absent(office, "MON-AM"), {two})
+            notebook.keep(office, "absent.MON-AM", lambda kept: [*kept, "9999999"])  # who has left since then
+            self.assertEqual((note(["9999999"]), note([], ["9999999"])), ({two, "9999999"}, {two}))
 
     def test_before_the_day_nobody_was_there(self):
         self.environment["TODAY"] = "2027-06-06"  # a day before the session
