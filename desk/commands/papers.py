@@ -25,7 +25,7 @@ def print_paper(name: str, parser: command.Parser) -> None:
     session, *halls = vars(command.given(parser, "session", *["hall*"] * paper.by_hall)).values()
     with command.reading() as reading:
         text = papers.page(reading, name, session, *halls)
-    (command.say_private if paper.is_private() else command.say)(text)
+    (command.say_private if "needs" in paper.shows else command.say)(text)
 
 
 for name, paper in PAPERS.items():  # in place of that of slips another comes below

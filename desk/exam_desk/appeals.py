@@ -13,8 +13,7 @@ STATES = {1: "open", 2: "granted", 3: "refused", 4: "retracted", 5: "superseded"
 STANDING, GONE = "{state}, standing", "gone"
 LOST = "appeal {number} {ref} for {session}: {was} -> {becomes}"
 OTHERWISE = LOST + ", with another answer"
-DECIDE = "decide"
-DAYS = {"hall": 2, "clash": 5, "arrangement": 10, DECIDE: 1}  # before that of the session: to lodge, by kind; to decide
+DAYS = {"hall": 2, "clash": 5, "arrangement": 10, "decide": 1}  # before the session's: to lodge, by kind; to decide
 IS_STANDING = "(number, ref) IN standing"  # of an appeal
 OPEN = ("SELECT appeal.*, day, name FROM appeal JOIN session ON session.code = session "
         "JOIN candidate ON candidate.number = appeal.number WHERE state = 1 "
@@ -29,7 +28,7 @@ def fate(state: int, is_standing: bool) -> Said:
     return Said(STANDING, {"state": word}) if is_standing else word
 
 
-def last_day(session_day: str, what: str = DECIDE) -> str:
+def last_day(session_day: str, what: str = "decide") -> str:
     """The last day to lodge an appeal of a kind, or to decide one."""
     return (datetime.date.fromisoformat(session_day) - datetime.timedelta(days=DAYS[what])).isoformat()
 

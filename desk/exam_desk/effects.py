@@ -148,7 +148,7 @@ def papers_of(before: Reading, after: Reading, session: str, among: Collection[s
     """The papers that are noted as printed and show those who are otherwise than before and not as on paper, of some
     candidates or of all, or what lines share and is another."""
     paper = on_paper.noted(after.office, session)
-    if not paper.lines:
+    if not (paper.lines or paper.shared):
         return {}
     then, now = (on_paper.lines_of(reading, session, among) for reading in (before, after))
     moves = (move._replace(printed=paper.lines.get(move.number)) for move in on_paper.moves(then, now))

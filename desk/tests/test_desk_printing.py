@@ -347,7 +347,7 @@ class TestTheDay(DeskSchool):
         self.browser.post(page + "/absent", page, numbers="0001119")
         self.assertRegex(self.log(), r"\(ab, desk\)\tabsent MON-AM\t0\tabsent 0001119\n")
         self.assertEqual(notebook.absent(self.value, "MON-AM"), {"0001051", "0001119"})
-        notebook.keep(self.value, "absent.MON-AM", lambda _: ["9999999"])  # a copy from before they came was put back
+        notebook.keep(self.value, "absent.MON-AM", lambda kept: [*kept, "9999999"])  # a copy from before they came was put back
         said = self.browser.words(page)
         self.assertIn("lacks them: 0001051, 9999999 ", said)
         self.assertIn("1 candidate is noted as absent", said)

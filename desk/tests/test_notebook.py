@@ -243,6 +243,8 @@ class Commands(sample.SampleSchool):
             self.assertEqual(notebook.absent(office, "MON-AM"), set())
             note([two])
             self.assertEqual(notebook.absent(office, "MON-AM"), {two})
+            notebook.keep(office, "absent.MON-AM", lambda kept: [*kept, "9999999"])  # who has left since then
+            self.assertEqual((note(["9999999"]), note([], ["9999999"])), ({two, "9999999"}, {two}))
 
     def test_before_the_day_nobody_was_there(self):
         self.environment["TODAY"] = "2027-06-06"  # a day before the session
@@ -375,7 +377,8 @@ class Commands(sample.SampleSchool):
         self.assertIn("nobody noted", self.refused("printed", "TUE-PM", "--look"))
         self.office("printed", "TUE-PM")
         self.assertEqual(self.office("printed", "TUE-PM", "--look"), "the papers are up to date\n")
-        self.office("import", "entries", self.write("new.csv", "number,paper\n0001051,ART\n"))
+        told = self.run_office("import", "entries", self.write("new.csv", "number,paper\n0001051,ART\n")).stderr
+        self.assertIn("out of date: TUE-PM (board, counts, slips)\n", told)
         self.assertEqual(self.office("printed", "TUE-PM", "--look"), "0001051 Di Berg: not on paper -> no desk\n"
                          "to print again: board, counts, slips\n")
 

@@ -1,8 +1,11 @@
 """Sessions at one time, wherever a person is told of them; and what `check-files` says of files without a mistake."""
+import contextlib
 import csv
 import os
 import re
+import sqlite3
 import subprocess
+import types
 import unittest
 
 import sample
@@ -83,6 +86,15 @@ class Overlaps(sample.SampleSchool):
 
 
 class Lines(unittest.TestCase):
+    def test_whoever_sits_longest_sits_for_twenty_hours(self):
+        """For 600 minutes, and as many more: a session that begins later meets nobody of the first."""
+        with contextlib.closing(sqlite3.connect(":memory:")) as rows:
+            rows.execute("CREATE TABLE session (code, day, start)")
+            rows.executemany("INSERT INTO session VALUES (?, ?, ?)", [
+                ("A", "2027-06-07", 540), ("B", "2027-06-08", 299), ("C", "2027-06-08", 300)])
+            found = overlaps.pairs(types.SimpleNamespace(rows=rows), [])
+        self.assertEqual(found, [("A", "B", 1199), ("B", "C", 1)])
+
     def test_the_first_of_many(self):
         """Twenty have a line each; of more the last line says how many these are."""
         for count, last in ((20, "A and B overlap: candidates of both in H"), (21, ".. and 1 more overlap"),

@@ -5,13 +5,10 @@ from typing import NamedTuple
 class Paper(NamedTuple):
     """A paper of a session. The function of `papers` that has its name makes it; slips are made by `slips`."""
     title: str
-    shows: str  # what is another where it is out of date, as `on_paper` calls it; beside what all papers show
+    shows: str  # what puts it out of date, in the words of `on_paper`; what all papers show is left out
     about: str = ""  # what `--help` says of it
     style: str = ""  # where it is not that of its name
     by_hall: bool = True  # else it is of the whole session
-
-    def is_private(self) -> bool:
-        return "needs" in self.shows
 
 
 PAPERS = {  # by the commands that print them
