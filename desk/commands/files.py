@@ -55,7 +55,7 @@ def read_source(office: Office, given: Namespace) -> Job:
     return job
 
 
-@command.named("""Makes import files from a workbook, or from files that a spreadsheet broke: read WORKBOOK|FOLDER [NEW]
+@command.named("""Makes import files from a workbook, or from files that a spreadsheet broke: read WORKBOOK [NEW], mend FOLDER [NEW]
 
     office read school.xlsx     makes the folder school, with sessions.csv, papers.csv and so on
     office read students.csv new --columns columns.toml
@@ -111,7 +111,8 @@ It reads sessions.csv, papers.csv, halls.csv, openings.csv, candidates.csv, arra
 are there, and the office's file if there is one. Each mistake is a line: file, line, value, cure. What the program
 takes, though it may be wrong, is a note. Candidates without an access code are counted in one line. Where nothing is
 wrong it imports them into a private copy of the office, and notes who would lose a desk, miss a paper, sit otherwise or
-be in two sessions at one time. The status is 1 if `office import` would refuse a file.
+be in two sessions at one time. The status is 1 if `office import` would refuse a file. `office mend` takes back most of
+what a spreadsheet broke.
 """)
 def check_files(parser: command.Parser) -> bool:
     from exam_desk import checking, lists

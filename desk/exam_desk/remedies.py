@@ -38,12 +38,13 @@ def best(rows: Rows, why: Reasons, sheet: Shortage) -> list[Remedy]:
 
 
 def remedies(rows: Rows, why: Reasons, sheet: Shortage) -> Iterator[Remedy]:
-    """With the desks that are free, with as many as the hall has in any session, and, of an open one, as are short: for
-    those on the sheet, since whoever goes there makes room for another. A hall is open no longer than they need; a
-    closed one until most open halls are, where that is later."""
+    """With the desks that are free, with as many as the hall has in any session, and, of an open one, as are short, but
+    for those whose needs no hall has: for those on the sheet, since whoever goes there makes room for another. A hall
+    is open no longer than they need; a closed one until most open halls are, where that is later."""
     listed, opened = set(sheet.candidates), {each.hall: each for each in why.openings}
     people = [member for member in why.members if member.number in listed]
     most = dict(rows.execute("SELECT hall, max(desks) FROM opening GROUP BY hall"))
+    helped = sheet.unseated - lacking(rows, why).total()
     usual = mode(sorted((each.until for each in why.openings), reverse=True) or [0])  # of several the latest
     for code, title, mask in rows.execute("SELECT code, title, features FROM hall ORDER BY code"):
         now, taken = opened.get(code), len(why.taken[code])
@@ -51,7 +52,7 @@ def remedies(rows: Rows, why: Reasons, sheet: Shortage) -> Iterator[Remedy]:
         for reserved in dict.fromkeys([base.reserved, False]):
             widest = base._replace(until=MIDNIGHT, reserved=reserved)
             ends = sorted(of_day(member.sitting.finish) for member in people
-                          if member.sitting.hall != code and not why.obstacles(member, widest))[:sheet.unseated]
+                          if member.sitting.hall != code and not why.obstacles(member, widest))[:helped]
             room = [base.desks - taken, most[code] - taken, len(ends)] if now else [most.get(code, len(ends))]
             for seats in {len(ends[:free]) for free in room} - {0}:
                 then = base._replace(until=max(base.until, ends[seats - 1]), reserved=reserved,

@@ -7,7 +7,7 @@ one is moved or becomes another: nobody thinks of it then, so it is said.
 """
 import itertools
 import sqlite3
-from collections.abc import Iterable
+from collections.abc import Collection, Iterable, Iterator, Mapping
 from typing import NamedTuple
 
 from exam_desk import files, lists, overlaps, typed
@@ -134,6 +134,28 @@ def pairs(rows: Rows) -> list[tuple[sqlite3.Row, sqlite3.Row]]:
     later = {each for each in codes if each[-1:].isdecimal() for code in codes if is_numbered(each, code)}
     return [(first, second) for second in rows.execute(f"{PAPERS} ORDER BY day, start, paper.code").fetchall()
             if second["session"] in later for first in first_papers(rows, second)]
+
+
+def elsewhere(reading: Reading, members: Iterable[Member]) -> dict[str, list[str]]:
+    """By number what invigilators of these members must know of their other sessions."""
+    made, starts = {second["code"]: first for first, second in pairs(reading.rows)}, overlaps.starts(reading)
+    return {number: [*told(made, starts, sits, reading.all_of(number).values())] for number, _, sits in members}
+
+
+def told(made: Mapping[str, sqlite3.Row], starts: Mapping[str, int], sits: Sitting, all_of: Collection[Sitting]
+         ) -> Iterator[str]:
+    """What invigilators must know: what somebody sits in another session at that time; and where a second sitting is
+    behind this one, or is this one, that somebody stays with them in between."""
+    beside, mine = overlaps.beside(starts, sits, all_of), made.get(sits.paper)
+    for other in all_of:
+        first, where = made.get(other.paper), other.hall or "no hall yet"
+        if other in beside:
+            when = f"until {other.finish}" if starts[other.session] < starts[sits.session] else f"from {other.start}"
+            yield f"sits {other.session} {when}, in {where}"
+        if first and first["session"] == sits.session:
+            yield f"stay with them: {first['code']} at {other.start} in {where}"
+        elif mine and mine["session"] == other.session:
+            yield f"watched since {other.finish}, comes from {other.hall or 'no hall'}"
 
 
 def is_made_of(rows: Rows, second: sqlite3.Row, first: sqlite3.Row) -> bool:

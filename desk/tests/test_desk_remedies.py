@@ -132,6 +132,12 @@ class TestWhatCouldHelp(SmallSchool):
         self.assertIn("computer, quiet , 25 % extra time", words)
         self.assertNotIn("What could help", words)
 
+    def test_no_desk_for_whom_no_hall_suits(self):
+        """Of three without a desk one needs quiet, which no hall has."""
+        self.begin("A,Hall A,-\n", "S1,A,1,12:00,no\n", "".join(f"000000{place},SHORT\n" for place in range(1, 5)),
+                   "0000002,quiet,0\n")
+        self.assertEqual(self.remedies(), [("Have A with 3 desks, 2 more, more than it ever had", "2 of the 3")])
+
     def test_as_many_as_can_move_on(self):
         """Two need step-free, which A and B have. Only who sits in A could go to C, and A has one desk."""
         self.begin("A,Hall A,step-free+screen\nB,Hall B,step-free\nC,Hall C,screen\n",

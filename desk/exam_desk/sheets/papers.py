@@ -1,10 +1,9 @@
 """The papers of a session: a notice board, posters, desk cards, seating charts, copies to print, lists to sign,
 invigilators' sheets. Besides, who must be told of changes."""
 import functools
-import sqlite3
 import unicodedata
 from collections import Counter, defaultdict
-from collections.abc import Callable, Collection, Iterable, Iterator, Mapping, Sequence
+from collections.abc import Collection, Iterable, Iterator, Mapping, Sequence
 
 from markupsafe import Markup
 
@@ -12,6 +11,7 @@ from exam_desk import facts, lists, notebook, on_paper, overlaps, second_sitting
 from exam_desk.notebook import Rows
 from exam_desk.office import Trouble
 from exam_desk.reading import Member, Reading, Sitting
+from exam_desk.sheets import PAPERS
 from exam_desk.sheets.pages import (CODE, HEADED, document, hall_names, html, joined, paper_names, safe, table, text,
                                     with_school)
 from exam_desk.telling import Change
@@ -90,11 +90,11 @@ class Session:
 def page(reading: Reading, name: str, session: str, asked: Collection[str] = ()) -> str:
     """A paper of a session, by its name in PAPERS; of all halls, or of some. Raises `Trouble` as `Session`."""
     of = Session(reading, session, asked)
-    title, style, sheets = PAPERS[name]
-    found = joined(html("<div class=sheet>{}</div>\n", sheet) for sheet in sheets(of))
+    found = joined(html("<div class=sheet>{}</div>\n", sheet) for sheet in globals()[name](of))
     why = html("{}, none has a desk: <code>office why {}</code> says why", lists.count(len(of.members), "candidate"),
                session) if of.members else "nobody is entered"
-    return document(reading, f"{title} {session}", found or html("<h2>{}</h2>\n<p>{}</p>\n", of.heading, why), style)
+    return document(reading, f"{PAPERS[name].title} {session}",
+                    found or html("<h2>{}</h2>\n<p>{}</p>\n", of.heading, why), PAPERS[name].style or name)
 
 
 def board(of: Session) -> Iterator[Markup]:
@@ -185,31 +185,15 @@ def signatures(of: Session) -> Iterator[Markup]:
 
 def doors(of: Session) -> Iterator[Markup]:
     """Invigilators' sheets, by desk. Each page is a table, whose heading says which it is."""
-    notes, missed, starts = notebook.notes(of.office), of.reading.clashes(of.code), overlaps.starts(of.reading)
+    notes, missed = notebook.notes(of.office), of.reading.clashes(of.code)
     papers, titles = paper_names(of.rows, CODE), paper_names(of.rows, HEADED)
-    made = {second["code"]: first for first, second in second_sitting.pairs(of.rows)}
+    elsewhere = second_sitting.elsewhere(of.reading, of.members)
     for opening, there in of.halls:
         found = [row_of(of, member, papers[member.sitting.paper], member.number in notes, [
             *filter(None, [lists.allowance(member.sitting), notes.get(member.number)]),
             *(f"does not sit {paper}" for paper in missed.get(member.number, ())),
-            *elsewhere(made, starts, member.sitting, of.reading.all_of(member.number).values())]) for member in there]
+            *elsewhere[member.number]]) for member in there]
         yield from of_door(of, titles, opening, there, found)
-
-
-def elsewhere(made: Mapping[str, sqlite3.Row], starts: Mapping[str, int], sits: Sitting, all_of: Collection[Sitting]
-              ) -> Iterator[str]:
-    """What invigilators must know: what somebody sits in another session at that time; and where a second sitting is
-    behind this one, or is this one, that somebody stays with them in between."""
-    beside, mine = overlaps.beside(starts, sits, all_of), made.get(sits.paper)
-    for other in all_of:
-        first, where = made.get(other.paper), other.hall or "no hall yet"
-        if other in beside:
-            when = f"until {other.finish}" if starts[other.session] < starts[sits.session] else f"from {other.start}"
-            yield f"sits {other.session} {when}, in {where}"
-        if first and first["session"] == sits.session:
-            yield f"stay with them: {first['code']} at {other.start} in {where}"
-        elif mine and mine["session"] == other.session:
-            yield f"watched since {other.finish}, comes from {other.hall or 'no hall'}"
 
 
 def of_door(of: Session, titles: Mapping[str, Markup], opening: facts.Opening, members: list[Member],
@@ -239,13 +223,6 @@ def row_of(of: Session, member: Member, paper: Markup, is_noted: bool, arranged:
                             1 + until.count("<br>"))
     return [of.desk(member), member.number, text(member.name), paper, until,
             joined(map(text, arranged), "<br>"), ""], max(ROW, height)
-
-
-PAPERS: dict[str, tuple[str, str, Callable[[Session], Iterable[Markup]]]] = {  # title, style, sheets
-    "board": ("Notice board", "board", board), "cards": ("Desk cards", "cards", cards),
-    "chart": ("Seating charts", "chart", chart), "counts": ("Copies", "counts", counts),
-    "doors": ("Invigilators' sheets", "doors", doors), "poster": ("Posters", "poster", poster),
-    "signatures": ("Lists to sign", "doors", signatures)}
 
 
 def width(words: str) -> float:

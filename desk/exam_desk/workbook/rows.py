@@ -58,7 +58,7 @@ class Table(Headed):
             if cell.kind == "date" and cell.text[8:10] <= "12":
                 beside = place_name(self.sheet, texts[0], place)
                 text = f"date {shown_of(cell)}: a true date, but {beside} is a text: such a mixture arises where a " \
-                       "spreadsheet turns day and month round; type these dates again as 2027-06-07"
+                       "spreadsheet turns day and month round; type these dates again in the form YYYY-MM-DD"
                 self.mistake(row, place, text, "mixed")
 
     def filled_cells(self) -> dict[tuple[int, int], Cell]:
