@@ -33,7 +33,7 @@ HEADERS = {  # in the order in which they are imported
 BRINGS = {"session": "sessions", "paper": "papers", "hall": "halls", "number": "candidates"}
 REFERENCES = {kind: {name: BRINGS[name] for name in header if BRINGS.get(name, kind) != kind}
               for kind, header in HEADERS.items()}  # the columns whose values other files bring, and the kind of these
-KEYS = {"openings": 2, "entries": 2}  # how many columns make the key; elsewhere the first alone
+KEYS = {kind: header[:2 if kind in ("openings", "entries") else 1] for kind, header in HEADERS.items()}  # of a row
 FIRST_DAY, LAST_DAY = datetime.date(2000, 1, 11), datetime.date(2199, 12, 31)
 BOM = b"\xef\xbb\xbf"
 INPUT = "/dev/stdin"
@@ -230,7 +230,7 @@ def is_header(kind: str, record: Record | None) -> bool:
 
 
 def key_of(kind: str, fields: tuple[bytes, ...]) -> tuple[bytes, ...]:
-    return fields[:KEYS.get(kind, 1)]
+    return fields[:len(KEYS[kind])]
 
 
 def shown(field: bytes) -> str:

@@ -266,7 +266,7 @@ def other_values(before: Reading, after: Reading, kinds: Iterable[str] = CHANGED
     """The values that are others in rows that were there before, as the import files write them, in the order of the
     kinds: the key, the column, the value before and now."""
     for kind in kinds:
-        keys = files.KEYS.get(kind, 1)
+        keys = len(files.KEYS[kind])
         old = {tuple(row[:keys]): row for row in files.rows_of(before.rows, kind)}
         pairs = ((old.get(tuple(row[:keys]), row), row) for row in files.rows_of(after.rows, kind))
         yield from ((" ".join(row[:keys]), column, was, now) for was_row, row in pairs

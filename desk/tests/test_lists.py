@@ -297,7 +297,7 @@ class Lists(sample.SampleSchool):
         self.assertRegex(self.office("back"), "before codes 0001051\n")
         self.assertIn("the office has no candidate 0009999", self.refused("codes", "1051", "9999"))
         with mock.patch("secrets.choice", side_effect="WK3DEGZDPC" + "D" * 10):  # the code of 0001000
-            self.assertIn(b'"Di Berg","DDDDDDDDDD"', coding.other_rows(self.value, ["0001051"]).data)
+            self.assertIn(b'"Di Berg","DDDDDDDDDD"', coding.other_rows(self.value, ["0001051"])[0].data)
 
     def faults(self, session, change=lambda sheet: sheet):
         with Reading(self.value) as reading:

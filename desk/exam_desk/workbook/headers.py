@@ -129,8 +129,7 @@ def possible_headers(kind: str, sheet: Sheet, given: Given, *names: str) -> list
 def find_header(kind: str, sheet: Sheet, given: Given, whole: bool = False) -> Header | None:
     """The header of a kind among the first rows of a sheet; `whole` asks for every column of the kind, where else its
     key is enough, with what refers to other kinds."""
-    key = files.HEADERS[kind][:files.KEYS.get(kind, 1)]
-    needed = set(files.HEADERS[kind]) - {"code"} if whole else {*key, *files.REFERENCES[kind]}
+    needed = {*files.HEADERS[kind]} - {"code"} if whole else {*files.KEYS[kind], *files.REFERENCES[kind]}
     found = [header for header in possible_headers(kind, sheet, given)
              if header.columns and needed <= (have := {*header.columns, *given.fixed}) and len(have) > 1]
     return max(found, key=lambda header: len(header.columns)) if found else None
@@ -144,8 +143,8 @@ def read_columns(path: str, content: bytes | None = None) -> tuple[dict[str, Giv
     try:
         content = files.read(path) if content is None else content
         if len(content) > MOST_COLUMNS or content.count(b".") > MOST_POINTS:
-            raise Trouble(f"it has more than {MOST_COLUMNS:,} bytes or {MOST_POINTS:,} points: write only the headers and "
-                          "words that your export has")
+            raise Trouble(f"it has more than {MOST_COLUMNS:,} bytes or {MOST_POINTS:,} points: write only the headers "
+                          "and words that your export has")
         found = tomllib.loads(content.decode("utf-8-sig"))
         words, dates = found.pop("words", {}), found.pop("dates", "")
         given = {kind: given_of(kind, said) for kind, said in found.items()}

@@ -252,19 +252,19 @@ def encoded(text: str) -> bytes:
     return text.encode("utf-8", "surrogatepass")
 
 
-def refuse_there(target: str) -> None:
-    """Raises `Trouble` where something has the name of the folder, or nothing can be made where it is to be."""
+def refuse_there(target: str) -> str:
+    """The folder in which a new one is to be. Raises `Trouble` where something has its name, or that is not there."""
     if os.path.lexists(target):
         raise Trouble(f"{target} is there already; name a new folder")
     if not os.path.isdir(beside := os.path.dirname(os.path.abspath(target))):
         raise Trouble(f"the folder {beside} is not there")
+    return beside
 
 
 @contextlib.contextmanager
 def new_folder(target: str) -> Iterator[str]:
     """A folder for its owner alone, which gets its name when all is in it. Raises `Trouble` where that is there."""
-    refuse_there(target)
-    making = tempfile.mkdtemp(prefix=".making-", dir=os.path.dirname(os.path.abspath(target)))
+    making = tempfile.mkdtemp(prefix=".making-", dir=refuse_there(target))
     try:
         yield making
         os.rename(making, os.path.abspath(target))

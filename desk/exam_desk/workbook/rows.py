@@ -22,10 +22,6 @@ Row = Mapping[int, Cell | None]  # by column, what is read of a row
 class Table(Headed):
     """A table, whose rows are read."""
 
-    @property
-    def keys(self) -> list[str]:
-        return files.HEADERS[self.kind][:files.KEYS.get(self.kind, 1)]
-
     def records(self) -> list[Record]:
         self.tell_header()
         self.look_at_hidden()
@@ -127,14 +123,14 @@ class Table(Headed):
 
     def says_total(self, cells: dict[int, Cell], here: Row) -> bool:
         """Whether a row says that it is a total, in its key or beside a key that is empty."""
-        keys = [here[places[0]] for name, places in self.header.columns.items() if name in self.keys]
+        keys = [here[places[0]] for name, places in self.header.columns.items() if name in files.KEYS[self.kind]]
         return any(map(says_total, keys)) or not all(keys) and any(map(says_total, cells.values()))
 
     def is_whole(self, here: Row) -> bool:
         """Whether a row has all that a row of its kind must have, and its key is one."""
         columns = self.header.columns
         return all(name in MAY_BE_EMPTY or any(here[place] for place in columns.get(name, []))
-                   and (name not in self.keys or self.job.said(name, here[columns[name][0]]))
+                   and (name not in files.KEYS[self.kind] or self.job.said(name, here[columns[name][0]]))
                    for name in files.HEADERS[self.kind])
 
     # -- what a row says
