@@ -14,7 +14,7 @@ from exam_desk.office import Trouble
     office back 1 --yes    without a question, for scripts
 
 It names each appeal and each decision that is taken away: in the question, in the answer and in the log. If more came
-while the question stood, or somebody changed the office, nothing is done. A copy of the office as it is now is kept
+while the question stood, or somebody changed the office, it asks again. A copy of the office as it is now is kept
 first. Notes, the name of the school, rows of desks, printed desks and absences stay as they are: it names those that
 were others in the copy.
 """, changes=True)

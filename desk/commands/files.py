@@ -144,11 +144,12 @@ def codes(parser: command.Parser) -> command.Plan:
                         help="who of the file gets another code")
     parser.add_argument("--output", metavar="FILE", help="the new file, CANDIDATES-with-codes.csv if not given")
     given = parser.parse_args()
-    if given.words and typed.is_right("number", given.words[0]):
+    is_number = given.words != [] and typed.is_right("number", given.words[0])
+    if is_number and not (given.new or given.output):
         step, state = coding.other_rows(command.office(), given.words)
         return programs.Change(steps=[step], title=" ".join(["codes", *given.words]), made_for=state)
     path, *more = given.words or ["candidates.csv"]
-    if more:
+    if more or is_number:
         parser.error("name one file, or numbers alone")
 
     def write() -> None:

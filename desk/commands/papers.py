@@ -9,47 +9,28 @@ import re
 import command
 from exam_desk import typed
 from exam_desk.office import Office, Trouble
+from exam_desk.sheets import PAPERS
 
-PAGE = """Prints {} of a session: {} SESSION{} >{}.html
+PAGE = """Prints the {0} of a session: {1} SESSION{2} >{1}.html
 
-{}
-It is a page for a browser, made for A4{}.
+{3}
+It is a page for a browser, made for A4{4}.
 """
 OF_HALLS = "; each hall begins a page, and one in which nobody sits has none"
-PAPERS = {  # what each is, and what `--help` says of it
-    "board": ("a notice board", """\
-By name, in two columns, with the hall and the desk. Only namesakes have their numbers beside the name."""),
-    "cards": ("cards for the desks", """\
-Ten on a sheet, by hall and desk: desk, name, number, paper, start and hall."""),
-    "chart": ("the seating charts", """\
-Each hall as rows of desks, with the name, number and paper of who sits there. `office rows GYM 8` says once how the
-desks of a hall stand. A line says of which halls there is no chart yet."""),
-    "counts": ("the copies of papers for each hall", """\
-A row for each hall and paper, with the last finish and boxes to tick, then the sums by paper. Candidates without a desk
-have rows of their own at the end."""),
-    "doors": ("the invigilators' sheets", """\
-By desk the number, name, paper, finish, arrangement and note of each candidate, and a box to sign. It is private: the
-door gets `office poster`, and candidates sign `office signatures`."""),
-    "poster": ("the posters for the doors", """\
-A heading that is read from afar, and by name the desk of each candidate. Only namesakes of the session, in whichever
-halls, have their numbers beside the name. It shows no paper and no arrangement."""),
-    "signatures": ("the lists to sign", """\
-By desk number, name and paper of each candidate, and a box to sign. It shows no arrangement, note or finish."""),
-}
-WHOLE = ["board", "counts"]  # of the whole session alone
 
 
 def print_paper(name: str, parser: command.Parser) -> None:
     from exam_desk.sheets import papers
-    session, *halls = vars(command.given(parser, "session", *([] if name in WHOLE else ["hall*"]))).values()
+    paper = PAPERS[name]
+    session, *halls = vars(command.given(parser, "session", *["hall*"] * paper.by_hall)).values()
     with command.reading() as reading:
         text = papers.page(reading, name, session, *halls)
-    (command.say_private if name == "doors" else command.say)(text)
+    (command.say_private if paper.is_private() else command.say)(text)
 
 
-for name, (what, text) in PAPERS.items():
-    words = ("", "") if name in WHOLE else (" [HALL ..]", OF_HALLS)
-    command.COMMANDS[name] = command.Command(PAGE.format(what, name, words[0], name, text, words[1]),
+for name, paper in PAPERS.items():  # in place of that of slips another comes below
+    words = (" [HALL ..]", paper.about, OF_HALLS) if paper.by_hall else ("", paper.about, "")
+    command.COMMANDS[name] = command.Command(PAGE.format(paper.title.lower(), name, *words),
                                              functools.partial(print_paper, name))
 
 

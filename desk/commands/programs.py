@@ -99,7 +99,7 @@ class List(Change):
     def said(self, rehearsal: Rehearsal) -> int:
         statuses = [*map(self.said_of_row, self.rows, rehearsal.answers)]
         put(f"{statuses.count(0)} of {lists.count(len(self.rows), 'row')} would be done\n")
-        return int(statuses.count(0) < len(self.rows))
+        return int(any(statuses))
 
     def __call__(self) -> int:
         statuses: list[int] = []
@@ -115,7 +115,7 @@ class List(Change):
         command.tell_consequences(carried.copy)
         if carried.signal:
             raise carried.signal
-        return int(any(statuses) or done < len(self.rows))
+        return int(any(statuses))
 
     def said_of_row(self, line: int, answered: Answered) -> int:
         """Prints what became of a row; the status."""
@@ -144,18 +144,21 @@ class Back(Change):
                            *(f"taken away: {line}" for line in taken), *left])
 
     def __call__(self) -> int:
-        """Does nothing where the office changed while the question stood, or appeals and decisions came."""
-        office, seen = command.office(), None
-        taken = copies.losses(office, self.copy)
-        if not self.is_agreed:
-            seen = changing.state_of(office)
-            when, what = copies.when_and_what(self.copy)
-            command.say_lines(f"taken away: {line}" for line in taken)
-            command.ask(f"put back the office of {when}, before `{plain(what)}`? What was done since then is undone.")
-        done = changing.go_back(office, self.title.split(), self.copy,
-                                lambda lines: self.is_agreed or lines == taken, seen)
-        if not done.is_done:
-            raise Stale("other appeals or decisions would be taken away by now, so nothing is changed: give it again")
+        """It asks again where the office changed while the question stood, or appeals and decisions came."""
+        office, why, done = command.office(), "", changing.Back(False, [], None)
+        when, what = copies.when_and_what(self.copy)
+        seen = "", list[Said]()
+
+        def may_go(lines: list[Said]) -> bool:
+            return self.is_agreed or seen == (changing.state_of(office), lines)
+        while not done.is_done:
+            seen = (changing.state_of(office), copies.losses(office, self.copy))
+            if not self.is_agreed:
+                command.say_lines(f"taken away: {line}" for line in seen[1])
+                command.ask(f"{why}put back the office of {when}, before `{plain(what)}`? What was done since then is "
+                            "undone.")
+            done = changing.go_back(office, self.title.split(), self.copy, may_go)
+            why = "the office has changed since the question, and nothing is done yet: "
         self.tell("is", done.lines)
         command.tell_consequences(done.copy)
         return 0

@@ -13,8 +13,8 @@ STATES = {1: "open", 2: "granted", 3: "refused", 4: "retracted", 5: "superseded"
 STANDING, GONE = "{state}, standing", "gone"
 LOST = "appeal {number} {ref} for {session}: {was} -> {becomes}"
 OTHERWISE = LOST + ", with another answer"
-DAYS_TO_LODGE = {"hall": 2, "clash": 5, "arrangement": 10}  # before the day of the session, by kind
-DAYS_TO_DECIDE = 1
+DECIDE = "decide"
+DAYS = {"hall": 2, "clash": 5, "arrangement": 10, DECIDE: 1}  # before that of the session: to lodge, by kind; to decide
 IS_STANDING = "(number, ref) IN standing"  # of an appeal
 OPEN = ("SELECT appeal.*, day, name FROM appeal JOIN session ON session.code = session "
         "JOIN candidate ON candidate.number = appeal.number WHERE state = 1 "
@@ -29,16 +29,9 @@ def fate(state: int, is_standing: bool) -> Said:
     return Said(STANDING, {"state": word}) if is_standing else word
 
 
-def to_lodge(kind: str, session_day: str) -> str:
-    return before(session_day, DAYS_TO_LODGE[kind])
-
-
-def to_decide(session_day: str) -> str:
-    return before(session_day, DAYS_TO_DECIDE)
-
-
-def before(day: str, days: int) -> str:
-    return (datetime.date.fromisoformat(day) - datetime.timedelta(days=days)).isoformat()
+def last_day(session_day: str, what: str = DECIDE) -> str:
+    """The last day to lodge an appeal of a kind, or to decide one."""
+    return (datetime.date.fromisoformat(session_day) - datetime.timedelta(days=DAYS[what])).isoformat()
 
 
 def subject(row: sqlite3.Row) -> str:
@@ -51,7 +44,7 @@ def open_lines(rows: Rows, today: str, sessions: Collection[str] = ()) -> list[s
     """Two lines on each open appeal of these sessions, or of all, the most urgent first."""
     asked, lines = {head["code"] for head in facts.sessions(rows, sessions)}, []
     for row in (row for row in rows.execute(OPEN) if row["session"] in asked):
-        last = to_decide(row["day"])
+        last = last_day(row["day"])
         urgency = f"too late since {row['day']}" if today > last else f"decide by {last}"
         lines += [f"{urgency}: {row['session']} {row['number']:07} {row['name']}: {row['ref']} of {row['lodged']}: "
                   f"{KINDS[row['kind']]} {subject(row)}", f"    {row['reason'] or 'no reason given'}"]

@@ -16,7 +16,7 @@ import zlib
 from collections.abc import Iterator
 from typing import IO
 
-from exam_desk import beside, copies, files, logbook, notebook, private, running
+from exam_desk import beside, copies, files, logbook, notebook, private
 from exam_desk.office import Office, Trouble
 from exam_desk.workbook.cells import PASSWORD
 
@@ -64,7 +64,6 @@ def brought(office: Office, name: str, content: IO[bytes]) -> Iterator[tuple[str
                 raise
             raise Trouble(BROKEN) from fault
         copies.check(office, path)
-        running.run_over(office, path, "migrate")
         yield copy, when
 
 
@@ -80,6 +79,7 @@ def unpack(archive: zipfile.ZipFile, path: str) -> None:
         with open(target, "xb", opener=private.no_link) as file:
             shutil.copyfileobj(archive.open(part), file)
             os.fsync(file.fileno())
+    beside.sync(folder)
 
 
 def office_of(archive: zipfile.ZipFile, path: str) -> dict[str, str]:

@@ -98,10 +98,10 @@ def open_file(office: str, *names: str, flags: int) -> int:
         return opened(folder(office, *names), flags, outer)
 
 
-def text_of(office: str, name: str) -> str:
-    """What a file in the folder holds, as far as LAST_BYTES go; nothing where it cannot be read, such as a link."""
+def text_of(office: str, name: str, most: int = LAST_BYTES) -> str:
+    """What a file in the folder holds, as far as the last bytes go; nothing where it cannot be read, such as a link."""
     with contextlib.suppress(OSError, Strange), open(open_file(office, name, flags=os.O_RDONLY), "rb") as file:
-        file.seek(max(os.fstat(file.fileno()).st_size - LAST_BYTES, 0))
+        file.seek(max(os.fstat(file.fileno()).st_size - most, 0))
         return file.read().decode("utf-8", "replace")
     return ""
 

@@ -127,7 +127,6 @@ def rehearse(office: Office, steps: Sequence[Step], tell: Tell = lambda title: N
             raise snapshot.unreadable(fault.filename or office.path, fault) from fault
         if copy is not None:
             copies.check(office, after)
-            running.run_over(office, after, "migrate")
         rehearsal = Rehearsal([], office, before, after)
         for step in steps:
             tell(step.title())
@@ -278,6 +277,7 @@ def go_back(office: Office, words: Sequence[str], copy: str, may_go: Callable[[l
             elif copies.is_brought(copy):
                 with contextlib.suppress(OSError):  # it has none, or one is here already
                     os.rename(os.path.join(copy, notebook.PLACE), beside.folder(office.path, notebook.PLACE))
+                    beside.sync(beside.folder(office.path))
             outcome = stack.enter_context(logbook.logged(office, words, answer=os.path.basename(kept)))
         with whole():
             copies.move_in(office, path)

@@ -141,7 +141,7 @@ def chosen(office: Office, number: int) -> str:
     return found[number - 1]
 
 
-def prune(office: Office, used: str) -> None:
+def prune(office: Office, used: str = "") -> None:
     """Removes the oldest copies: what is beyond MOST_COPIES, or beyond MOST_BYTES in all; the last one stays, and one
     that is used."""
     room = MOST_BYTES
@@ -172,11 +172,10 @@ def state_of(copy: str) -> str:
 
 
 def check(office: Office, path: str) -> None:
-    """Raises `Trouble` where a file is no good office; one of an earlier version is tested by a `migrate` of a copy."""
+    """Raises `Trouble` where a private copy is no good office; one of an earlier version is carried over."""
     said = running.run_over(office, path, "check")
     if said.complaint.startswith("refused 27"):
-        with private.private_copy(path, office.path) as copy:
-            said = running.run_over(office, copy, "migrate")
+        said = running.run_over(office, path, "migrate")
     if said.status != 0:
         raise Trouble(f"this copy is no good office ({(said.answer + said.complaint).strip()}); nothing is changed")
 

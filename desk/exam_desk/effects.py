@@ -7,7 +7,7 @@ from collections import Counter, defaultdict
 from collections.abc import Collection, Iterable, Iterator, Mapping, Sequence
 from typing import NamedTuple
 
-from exam_desk import copies, facts, lists, notebook, on_paper, overlaps, telling
+from exam_desk import copies, facts, lists, logbook, notebook, on_paper, overlaps, telling
 from exam_desk.asking import Progress
 from exam_desk.office import Office, Trouble
 from exam_desk.reading import Person, Reading
@@ -23,8 +23,10 @@ FIGURES = ("SELECT code, coalesce(entered, 0), coalesce(seated, 0) FROM session 
 NO_SEAT = ("SELECT session, number FROM entry JOIN paper ON code = paper WHERE live = 1 "
            "EXCEPT SELECT session, number FROM seat")
 UNSEATED = ("without a desk", "without a desk")
-OVER, CLASHES, TWICE, HALLS, PRINTED, CODES = "over", "clashes", "twice", "halls", "printed", "codes"
-OF_PLACES = [OVER, HALLS, PRINTED]  # kinds of which sessions and halls are counted, and not people
+OVER, OPENED, CLASHES, TWICE, HALLS, PRINTED, CODES = ("over", "opened", "clashes", "twice", "halls", "printed",
+                                                       "codes")
+OPENINGS = "SELECT session, hall FROM opening ORDER BY session, hall"
+OF_PLACES = [OVER, OPENED, HALLS, PRINTED]  # kinds of which sessions and halls are counted, and not people
 COUNTED = ["gets", "leaves", "joins", "desk"]  # not named where the others are listed with what becomes of them
 LISTED_BY = {CLASHES: "look --clashes", TWICE: "summary", HALLS: "summary", PRINTED: "printed"}  # others by `changes`
 MOST_NAMED = 3  # candidates in a short line, sessions or values
@@ -54,7 +56,7 @@ class Effects:
         self.changes = [*dict.fromkeys(each for part in self.kinds.values() for each in part)]
         self.clashes = [*new_clashes(before, after, self.touched)]
         self.overlaps = [(each, by_name(after, each.candidates)) for each in overlaps.new(before, after, self.touched)]
-        self.over = over(self)
+        self.over, self.opened = over(self), opened(before, after)
         self.out_of_date = out_of_date(before, after, self.touched)
         self.codes = by_name(after, [key for key, column, *_ in telling.other_values(before, after, ["candidates"])
                                      if column == "code"])
@@ -70,6 +72,9 @@ class Effects:
             OVER: [Met(code, f"of {day} for {lists.count(people, 'candidate')}",
                        "is it the right session, or an old file?")
                    for code, (day, people) in self.over.items()],
+            OPENED: [Met(code, f"{hall} (closed on {when[:10]})",
+                         f"afterwards `office close-hall {code} {hall}` closes it")
+                     for (code, hall), when in self.opened.items()],
             CLASHES: [Met(code, person.shown(), f"does not sit {', '.join(missed)}")
                       for code, person, missed in self.clashes],
             TWICE: [Met(each.late, person.shown(), f"sits in {each.early} then")
@@ -121,6 +126,14 @@ def over(effects: Effects) -> dict[str, tuple[str, int]]:
             if after.office.is_over(day) and counts[code]}
 
 
+def opened(before: Reading, after: Reading) -> dict[tuple[str, str], str]:
+    """The halls that a change opens again, by session, each with when `close-hall` closed it by the log."""
+    was, now = ({(code, hall): None for code, hall in each.rows.execute(OPENINGS)} for each in (before, after))
+    new = [each for each in now if each not in was]
+    closed = logbook.closings(after.office) if new else {}
+    return {each: closed[each] for each in new if each in closed}
+
+
 def out_of_date(before: Reading, after: Reading, touched: Sequence[str]) -> dict[str, on_paper.Papers]:
     """By session the papers that a change in some sessions makes out of date; sheets of others name what somebody sits
     there."""
@@ -137,8 +150,7 @@ def papers_of(before: Reading, after: Reading, session: str, among: Collection[s
     paper = on_paper.noted(after.office, session)
     if not paper.lines:
         return {}
-    asked = [(reading, facts.entered(reading.rows, session, 1, among)) for reading in (before, after)]
-    then, now = (on_paper.lines_of(reading, session, reading.members(session, numbers)) for reading, numbers in asked)
+    then, now = (on_paper.lines_of(reading, session, among) for reading in (before, after))
     moves = (move._replace(printed=paper.lines.get(move.number)) for move in on_paper.moves(then, now))
     was, shared = (on_paper.shared(reading, session) for reading in (before, after))
     others = (other for other in on_paper.others(paper.shared, shared) if was.get(other[0]) != other[2])
@@ -256,11 +268,13 @@ def headlines(met: Groups) -> list[str]:
 def where(kind: str, met: list[Met]) -> str:
     if len(met) <= MOST_NAMED or kind in OF_PLACES or not met[0].session:
         return few([each.who for each in met], MOST_NAMED, "; ")
+    if len({each.person for each in met}) == 1:
+        return met[0].person
     counts = Counter(each.session for each in met)
     return few([f"{count:,} in {session}" for session, count in counts.most_common()], MOST_NAMED)
 
 
 def listing(met: Groups, copy: int) -> list[str]:
     """What lists them: the changes since a copy where somebody sits otherwise; clashes, overlaps and papers."""
-    words = sorted({LISTED_BY.get(kind, f"changes {copy}") for kind in met if kind != CODES})
+    words = sorted({LISTED_BY.get(kind, f"changes {copy}") for kind in met if kind not in (OPENED, CODES)})
     return [f"`office {'; office '.join(words)}` lists them"] if words else []

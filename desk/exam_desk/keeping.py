@@ -63,7 +63,7 @@ class Keep:
     def show(self, state: str = "aside", **more: object) -> None:
         """Writes into the lock file what `keep` does."""
         said = {"pid": os.getpid(), "place": self.place, "state": plain(state)[:MOST_FAULT], **more}
-        turns.note(self.lock, json.dumps(said, ensure_ascii=False))
+        turns.note(self.lock, json.dumps(said))
 
     def end(self) -> None:
         self.ending = True

@@ -18,6 +18,7 @@ NAME = "log"
 WITH_REASON = {"decide": 4, "lodge": 6}  # words at most, behind which a reason stands, which is private
 BESIDE_OTHERS = ["lodge"]  # it goes the candidates' way, without the office for itself
 BEGINS, STEP = "begins", "step"
+ALL_BYTES = 1 << 30
 
 
 @dataclass
@@ -94,8 +95,20 @@ def broken_off(office: Office) -> Unfinished | None:
     return found if found and not turns.is_taken(office, "want.lock") and unfinished(office) == found else None
 
 
-def last_lines(office: Office) -> Iterator[list[str]]:
+def closings(office: Office) -> dict[tuple[str, str], str]:
+    """When `close-hall` closed a hall for a session of this office, by session and hall: the last time of each."""
+    found = dict[tuple[str, str], str]()
+    for when, _, command, status, _ in last_lines(office, ALL_BYTES):
+        words = command.split()
+        if status == "0" and words == ["init"]:
+            found.clear()  # of an office that is gone
+        elif status == "0" and words[:1] == ["close-hall"] and len(words) > 2:
+            found[words[-2], words[-1]] = when
+    return found
+
+
+def last_lines(office: Office, most: int = beside.LAST_BYTES) -> Iterator[list[str]]:
     """The columns of the last lines of the log; none where it cannot be read."""
-    for line in beside.text_of(office.path, NAME).split("\n"):
+    for line in beside.text_of(office.path, NAME, most).split("\n"):
         if len(columns := line.split("\t")) == 5:
             yield columns

@@ -130,22 +130,6 @@ def absences(reading: Reading, session: str) -> Absences | None:
     return Absences(members, sorted(noted.difference(member.number for member in members)))
 
 
-def keep_absent(office: Office, session: str, missing: Iterable[str], there: Iterable[str],
-                nobody: bool = False) -> set[str]:
-    """Adds some to the absent of a session and takes others away; who is absent then. `nobody` is kept, too."""
-    def change(kept: list[str] | None) -> list[str] | None:
-        found = sorted({*(kept or ()), *missing}.difference(there))
-        if found and nobody:
-            raise Trouble(f"nothing is noted, since these are absent: {words.few(found, MOST_NAMED)}")
-        return found if found or nobody else None
-    before, now = keep(office, f"absent.{session}", change)
-    was, found = {*(before or ())}, {*(now or ())}
-    log_numbers(office, ["absent", session], {"absent": found - was, "there": was - found})
-    if nobody and before is None:
-        logbook.write_done(office, ["absent", session], 0, "nobody")
-    return found
-
-
 def is_to_come(office: Office, day: str) -> bool:
     """Whether a session of this day is yet to come: nobody can have been present in it, or absent."""
     return office.today().isoformat() < day
@@ -172,7 +156,18 @@ def note_absent(office: Office, reading: Reading, session: str, missing: Iterabl
     members = reading.members(session, facts.entered(reading.rows, session, among=asked))
     if wrong := sorted(asked.difference(member.number for member in members)):
         raise Trouble(f"nothing is noted: {words.few(wrong, MOST_NAMED)}: no candidate of {session}")
-    return keep_absent(office, session, missing, there, nobody)
+
+    def change(kept: list[str] | None) -> list[str] | None:
+        found = sorted({*(kept or ()), *missing}.difference(there))
+        if found and nobody:
+            raise Trouble(f"nothing is noted, since these are absent: {words.few(found, MOST_NAMED)}")
+        return found if found or nobody else None
+    before, now = keep(office, f"absent.{session}", change)
+    was, found = {*(before or ())}, {*(now or ())}
+    log_numbers(office, ["absent", session], {"absent": found - was, "there": was - found})
+    if nobody and before is None:
+        logbook.write_done(office, ["absent", session], 0, "nobody")
+    return found
 
 
 def attendance(reading: Reading, sessions: Iterable[str]) -> str:

@@ -2,27 +2,18 @@
 import hashlib
 import itertools
 import re
-from collections.abc import Iterable, Mapping
+from collections.abc import Collection, Iterable, Mapping
 from typing import Any, NamedTuple
 
 from exam_desk import facts, lists, logbook, notebook, overlaps, second_sitting, words
 from exam_desk.office import Office
-from exam_desk.reading import Member, Reading
+from exam_desk.reading import Reading
+from exam_desk.sheets import PAPERS
 
 NOTED = "noted"  # stands beside the lines in files of earlier versions
 SCHOOL, OF = "school", ": "  # where others have a code; between a code and what is shown of it
 OF_SCHOOL = f"{SCHOOL}{OF}name"
-ALL = "doors signatures poster cards chart board counts slips"  # papers, by the commands that print them
-BY_HALL = ALL.split()[:5]
-ON = {  # which papers show what
-    "hall": ALL, "left": "doors signatures poster cards chart board counts",
-    "desk": "doors signatures poster cards chart board slips",
-    "name": "doors signatures poster cards chart board slips", "paper": "doors signatures cards chart counts slips",
-    "date": ALL, "start": ALL, "finish": "doors counts slips", "needs": "doors slips", "extra": "doors slips",
-    "misses": "doors slips", "note": "doors slips", "elsewhere": "doors",
-    "paper title": "doors cards counts slips", "hall title": ALL, "desks": "doors chart", "open until": "doors",
-    "other sessions": "doors poster chart",
-    "rows": "chart", OF_SCHOOL: "doors signatures poster chart board counts slips"}
+EVERYWHERE = {"hall", "date", "start", "hall title"}  # what all papers show
 Papers = dict[str, list[str]]  # which are out of date, each with its halls; none where it is of the whole session
 Other = tuple[str, str, str]  # what is another, its value on paper, and now
 
@@ -51,7 +42,7 @@ class Move(NamedTuple):
     now: Line | None  # None where they have left the session
 
     def kinds(self) -> list[str]:
-        """What is another, as ON has it."""
+        """What is another, as `shows` of a paper has it."""
         if self.printed and self.now:
             return [what for what, old, new in zip(Line._fields, self.printed, self.now) if old != new]
         return ["hall" if self.now else "left"]
@@ -63,7 +54,7 @@ class Move(NamedTuple):
                 for what, old, new in both if old != new]
 
 
-class Paper(NamedTuple):
+class Printed(NamedTuple):
     """What was printed for a session."""
     lines: dict[str, Line]  # by number
     shared: dict[str, str]  # as `shared` has it
@@ -83,12 +74,12 @@ class Compared(NamedTuple):
         return sorted({*itertools.chain(self.empty, *self.again.values())})
 
 
-def noted(office: Office, session: str) -> Paper:
+def noted(office: Office, session: str) -> Printed:
     """What was printed for a session; no line where nobody said that it was."""
     found = notebook.read(office, f"printed.{session}") or {}
     found.pop(NOTED, None)
     common = {what: parts[0] for what, parts in found.items() if OF in what}
-    return Paper({number: line_of(parts) for number, parts in found.items() if number not in common}, common)
+    return Printed({number: line_of(parts) for number, parts in found.items() if number not in common}, common)
 
 
 def line_of(parts: list[Any]) -> Line:
@@ -97,10 +88,11 @@ def line_of(parts: list[Any]) -> Line:
     return line._replace(note=sum_of(line.note))
 
 
-def lines_of(reading: Reading, session: str, members: Iterable[Member]) -> dict[str, Line]:
-    """What papers of a session show of these members."""
-    notes, members = notebook.notes(reading.office), [*members]
-    missed = reading.clashes(session, facts.entered(reading.rows, session, 2, {each.number for each in members}))
+def lines_of(reading: Reading, session: str, among: Collection[str] | None = None) -> dict[str, Line]:
+    """What papers of a session show of some candidates, or of all members; nothing where there is no such session."""
+    notes, members = notebook.notes(reading.office), reading.members(
+        session, facts.entered(reading.rows, session, 1, among))
+    missed = reading.clashes(session, facts.entered(reading.rows, session, 2, among))
     elsewhere = second_sitting.elsewhere(reading, members)
     return {number: Line(sits.hall or "", sits.desk or 0, name, sits.paper, sits.date, sits.start, sits.finish,
                          "+".join(sits.needs), str(sits.extra), "+".join(missed.get(number, ())),
@@ -138,12 +130,13 @@ def out_of_date(office: Office, moves: Iterable[Move], others: Iterable[Other], 
     met |= {(what if what == OF_SCHOOL else what.partition(OF)[2], line.hall) for what, *_ in others
             for line in lines.values() if what.partition(OF)[0] in (SCHOOL, line.hall, line.paper)}
     drawn, found = notebook.rows_of_halls(office), Papers()
-    for paper in ALL.split():
-        halls = {hall for kind, hall in met if paper in ON[kind].split() and (paper != "chart" or hall in drawn)}
-        if paper in BY_HALL:
+    for name, paper in PAPERS.items():
+        shows = EVERYWHERE.union(paper.shows.split(", "))
+        halls = {hall for kind, hall in met if kind in shows and (name != "chart" or hall in drawn)}
+        if paper.by_hall:
             halls.discard("")
         if halls:
-            found[paper] = sorted(halls) if paper in BY_HALL else []
+            found[name] = sorted(halls) if paper.by_hall else []
     return found
 
 
@@ -176,7 +169,8 @@ def otherwise(office: Office) -> dict[str, Papers]:
 
 def note(office: Office, reading: Reading, session: str) -> tuple[int, str]:
     """Notes, in the log too, that the papers of a session are printed as it is; how many desks, and an answer."""
-    lines = lines_of(reading, session, reading.members(session))
+    facts.session_row(reading.rows, session)
+    lines = lines_of(reading, session)
     codes = {SCHOOL}.union(*((line.hall, line.paper) for line in lines.values()))
     common = {what: [value, 0] for what, value in shared(reading, session).items() if what.partition(OF)[0] in codes}
     notebook.keep(office, f"printed.{session}", lambda _: common | lines)
@@ -192,7 +186,7 @@ def compared(reading: Reading, session: str) -> Compared | None:
     lines, then = noted(reading.office, session)
     if not (lines or then):
         return None
-    now = lines_of(reading, session, reading.members(session))
+    now = lines_of(reading, session)
     moved, common = moves(lines, now, facts.candidate_names(reading.rows)), others(then, shared(reading, session))
     papers, used = out_of_date(reading.office, moved, common, now), {line.hall for line in now.values()}
     again = {paper: [hall for hall in halls if hall in used] for paper, halls in papers.items()

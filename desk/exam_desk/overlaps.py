@@ -33,11 +33,9 @@ class Pair(NamedTuple):
     gap: int  # minutes from one start to the other
 
 
-class Doubtful(NamedTuple):
-    """Who sits in the first of two sessions, and may sit yet when the second begins."""
-    pair: Pair
-    hall: str | None  # in which candidates of the second sit, too; None where this one has both sessions
-    number: str
+# Who sits in the first of two sessions, and may sit yet when the second begins: the two; the hall, where candidates of
+# the second sit there, too, None where this one has both sessions; the number.
+Doubtful = tuple[Pair, str | None, str]
 
 
 class Overlap(NamedTuple):
@@ -56,14 +54,14 @@ def found(reading: Reading, asked: Collection[str] = (), number: str | None = No
     for pair in pairs(reading, asked or own) if own or not number else []:
         mine = {own[code].hall for code in (pair.early, pair.late) if code in own}
         there = reading.rows.execute(f"{IN_BOTH} UNION ALL {IN_HALLS}", {**pair._asdict(), "longest": LONGEST})
-        doubtful += [Doubtful(pair, hall, each) for hall, each in there
+        doubtful += [(pair, hall, each) for hall, each in there
                      if not number or (hall in mine if hall else each == number)]
     return certain(reading, doubtful)
 
 
 def certain(reading: Reading, doubtful: Collection[Doubtful]) -> list[Overlap]:
     """What is left when the program has said who sits until when."""
-    reading.ask(map(reading.person, sorted({each.number for each in doubtful})))
+    reading.ask(map(reading.person, sorted({number for *_, number in doubtful})))
     overlaps: dict[Pair, Overlap] = {}
     for pair, hall, number in doubtful:
         if length(reading.all_of(number)[pair.early]) > pair.gap:
@@ -97,7 +95,7 @@ def pairs(reading: Reading, asked: Collection[str]) -> list[Pair]:
 
 def in_halls(reading: Reading, session: str) -> dict[str, list[str]]:
     """By hall of a session a line on each other session that has candidates there at that time, and until when."""
-    doubtful = [Doubtful(pair, hall, number) for pair in pairs(reading, [session])
+    doubtful = [(pair, hall, number) for pair in pairs(reading, [session])
                 for hall, number in reading.rows.execute(IN_HALLS, pair._asdict())]
     begin, found = starts(reading), dict[str, list[str]]()
     for early, late, _, halls in certain(reading, doubtful):

@@ -117,4 +117,4 @@ def patience(office: Office) -> int:
     """For how many seconds waiting may help: another command has the file, and no `serve`. Where none is to be seen it
     may have ended just now; more often the file itself is wrong, and stays so."""
     has_it = holder(office)
-    return 0 if " serve " in has_it else turns.PATIENCE if has_it else 1
+    return 0 if "serve" in has_it.split() else turns.PATIENCE if has_it else 1

@@ -39,8 +39,8 @@ def best(rows: Rows, why: Reasons, sheet: Shortage) -> list[Remedy]:
 
 def remedies(rows: Rows, why: Reasons, sheet: Shortage) -> Iterator[Remedy]:
     """With the desks that are free, with as many as the hall has in any session, and, of an open one, as are short, but
-    for those whose needs no hall has: for those on the sheet, since whoever goes there makes room for another. A hall is
-    open no longer than they need; a closed one until most open halls are, where that is later."""
+    for those whose needs no hall has: for those on the sheet, since whoever goes there makes room for another. A hall
+    is open no longer than they need; a closed one until most open halls are, where that is later."""
     listed, opened = set(sheet.candidates), {each.hall: each for each in why.openings}
     people = [member for member in why.members if member.number in listed]
     most = dict(rows.execute("SELECT hall, max(desks) FROM opening GROUP BY hall"))

@@ -20,6 +20,7 @@ HEADER = ["tell", "session", "number", "name", *(f"old {name}" for name in COLUM
           "hall title", "old name", "also"]
 KINDS = {  # in which ways a change meets people, sessions and halls, the gravest first; of one, and of several
     "over": ("session that is over is changed", "sessions that are over are changed"),
+    "opened": ("hall that was closed is open again", "halls that were closed are open again"),
     "loses": ("loses the desk", "lose their desks"), "needs": ("loses a need", "lose needs"),
     "lacks": ("joins a session without a desk", "join a session without a desk"),
     "clashes": ("has a new clash", "have new clashes"),

@@ -20,6 +20,7 @@ from werkzeug.wrappers import Response
 from exam_desk import appeals, beside, notebook, on_paper, turns
 from exam_desk.telling import people_and_sittings
 from exam_desk.office import Office, Trouble
+from exam_desk.sheets import PAPERS
 from exam_desk.words import FEATURES
 from exam_web import candidates, guard, office, proposals, season, session, uploads, wording
 from exam_web.desk import Asked, Desk, Wrong, desk, wrong_page
@@ -49,9 +50,9 @@ def make(here: Desk) -> Flask:
     app.url_map.converters["int"] = Number
     wording.prepare(app)
     app.jinja_env.globals.update(
-        FEATURES=FEATURES, RUNNING=notebook.RUNNING, SHEETS=on_paper.ALL.split(),
+        FEATURES=FEATURES, RUNNING=notebook.RUNNING, SHEETS=[*PAPERS],
         has_handbook=office.HANDBOOK is not None, appeals=appeals, copy_key=proposals.copy_key,
-        last_day=appeals.to_decide, tally=people_and_sittings, by_halls=on_paper.by_halls)
+        last_day=appeals.last_day, tally=people_and_sittings, by_halls=on_paper.by_halls)
     for screen in SCREENS:
         app.register_blueprint(screen)
     app.before_request(begin)

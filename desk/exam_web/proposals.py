@@ -163,13 +163,12 @@ def import_step(kind: str, values: Mapping[str, str]) -> Step:
 def propose(what: str) -> Response:
     """Rehearses what a form asks. Raises `Wrong` for a refusal that belongs to a field."""
     plan = (PLANS.get(what) or abort(404))(request.form)
-    plan.key = keep(g.visit.proposals, MOST_PROPOSALS, plan)
     work(plan, rehearse)
     number = refusals.number_of(plan.refusal) or TROUBLE
     name = plan.fields.get(number, plan.beside if number not in (TROUBLE, *OF_THE_OFFICE) else "")
     if name and plan.against and not plan.is_working:
-        del g.visit.proposals[plan.key]
         raise Wrong(plan.form_page or plan.page, **{name: Markup("; ").join(map(said, plan.against))})
+    plan.key = keep(g.visit.proposals, MOST_PROPOSALS, plan)
     return lead("proposals.page", key=plan.key)
 
 
@@ -204,8 +203,6 @@ def rehearse(plan: Plan, here: Desk, who: Office) -> None:
             plan.stage = LODGING
             who = dataclasses.replace(who, path=stack.enter_context(private.private_copy(who.path, who.path)))
             steps = plan.grant(who)
-        if plan.refusal:
-            return
         rehearsal = stack.enter_context(changing.rehearse(who, steps, partial(setattr, plan, "stage")))
         before = here.fresh() or View(here.office, rehearsal.before)
         if plan.made_for not in ("", before.name):

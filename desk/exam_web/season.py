@@ -83,7 +83,7 @@ def of_sessions(found: list[Sums], is_whole: bool) -> Iterator[Attention]:
     twice = Counter(code for code, _ in sittings(view(), AT_ONCE) - asked)
     for each in found:
         here, soon = {"session": each.code}, level(each.day, SOON)
-        last, lodge = appeals.to_decide(each.day), appeals.to_lodge("clash", each.day)
+        last, lodge = appeals.last_day(each.day), appeals.last_day(each.day, "clash")
         if each.waiting:
             kinds = {appeals.KINDS[kind]: count for kind, count in view().rows(OPEN_KINDS, [each.code])}
             yield Attention(level(last, URGENT), last, "appeals", url_for("appeals.page", _anchor=each.code),
@@ -128,7 +128,7 @@ def deadlines(found: list[Sums]) -> list[tuple[str, dict[str, list[str]]]]:
     coming: dict[str, dict[str, list[str]]] = {}
     for session in found:
         for word in appeals.KINDS.values():
-            last = appeals.to_lodge(word, session.day)
+            last = appeals.last_day(session.day, word)
             if 0 <= days_until(last) <= SOON:
                 coming.setdefault(last, {}).setdefault(word, []).append(session.code)
     return sorted(coming.items())

@@ -14,7 +14,7 @@ from exam_desk.facts import Opening
 from exam_desk.notebook import Rows
 from exam_desk.overlaps import of_day
 from exam_desk.reading import Member
-from exam_desk.sheets import papers, slips
+from exam_desk.sheets import PAPERS, papers, slips
 from exam_desk.words import clock, parted
 from exam_web.desk import (Form, Page, View, Wrong, as_known, at_field, attached, checked, desk, lead, office, once,
                            styled, sums, tell_papers, view)
@@ -161,7 +161,7 @@ def sheet(code: str, sheet: str, hall: Sequence[str] = ()) -> str:
     """A sheet to print, of all halls or of some. A chart asks first how desks stand where nobody has said it."""
     shown = Session(code)
     halls = [shown.opening(each).hall for each in hall or request.args.getlist("hall")]
-    if sheet not in on_paper.ALL.split():
+    if sheet not in PAPERS:
         abort(404)
     if sheet == "slips":
         return styled(slips.page(view().reading, slips.Choice([code], desks=True)))

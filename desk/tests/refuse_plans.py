@@ -6,6 +6,8 @@ import html
 import pathlib
 import re
 import sys
+import time
+from concurrent.futures import ThreadPoolExecutor
 from unittest import mock
 
 DESK = pathlib.Path(__file__).resolve().parent.parent
@@ -125,6 +127,21 @@ def leads_back(browser, what, page):
     holds((found := text.count(f'id="{place}"')) == 1, f"the page of {what} has {place} {found} times")
 
 
+def done_once(browser):
+    """Of two clicks at one moment the second waits, and does nothing then."""
+    page = browser.post("/propose/enter", FORMS["enter"][1]).headers["Location"]
+    began, work = [], proposals.work
+
+    def slow(*words):
+        began.append(words)
+        time.sleep(0.5)
+        work(*words)
+    with mock.patch.object(proposals, "work", slow), ThreadPoolExecutor(2) as threads:
+        for _ in range(2):
+            threads.submit(browser.post, f"{page}/do", {"tick": "1"})
+    holds(len(began) == 1, f"a plan is done {len(began)} times")
+
+
 def main():
     office = Office(sys.argv[1], sys.argv[2], lambda: datetime.date(2027, 5, 1), "tester")
     browser = Browser(office)
@@ -136,6 +153,7 @@ def main():
         for number in numbers:
             refused(browser, what, number)
         refused_late(browser, what)
+    done_once(browser)
     print("\n".join([*wrong, f"{len(FORMS)} plans, {len(tries)} looks, {len(wrong)} bad"]))
 
 

@@ -14,7 +14,7 @@ import unittest
 from unittest import mock
 
 import sample
-from exam_desk import asking, hold
+from exam_desk import asking, hold, lodging
 from exam_desk.office import Office, Trouble
 
 ANSWER = b"HTTP/1.1 200 OK\r\nContent-Length: 2\r\n\r\nok"
@@ -154,6 +154,16 @@ class Serves(unittest.TestCase):
                     serve.bodies([REQUEST], lambda done, of: None)
             with open(os.path.join(folder, "begun"), encoding="utf-8") as file:
                 self.assertEqual((heard, file.read()), (explained, "begun\n" * times))
+
+
+class Lodging(unittest.TestCase):
+    def test_where_no_answer_comes_it_is_asked_for_again(self):
+        """Of `keep` while `serve` is away, or while too many wait."""
+        none = [b"HTTP/1.1 %d No\r\nContent-Length: 0\r\n\r\n" % status for status in (503, 504)]
+        for last, said in ((b'HTTP/1.1 409 No\r\nContent-Length: 12\r\n\r\n{"error":13}', {"error": 13}), (none[0], None)):
+            with (mock.patch("exam_desk.asking.answer", side_effect=[*none, last]),
+                  contextlib.nullcontext() if said else self.assertRaisesRegex(Trouble, "no answer: look with `office appeals")):
+                self.assertEqual(lodging.post(asking.Server(1, "8080"), "0001051", "CODE", b""), said)
 
 
 class Requests(unittest.IsolatedAsyncioTestCase):

@@ -126,6 +126,9 @@ class TestTaken(Backups):
                 snapshot.rows(self.value, found["office.db"])) as rows:
             self.assertEqual([*map(tuple, rows.execute("SELECT count(*) FROM appeal"))], [(1,)])
         self.refuses(backups.ALONE, zipped({"office.db": first}))
+        self.assertFalse(os.path.exists(self.path + "-wal"))  # of such an office a backup is whole all the same
+        with self.brought(private.zipped(self.path, "x", lambda folder: backups.fill(self.value, folder))) as (_, found):
+            self.assertIn("office.db", found)
 
     def test_an_office_of_an_earlier_version_is_carried_over(self):
         with contextlib.closing(sqlite3.connect(self.path)) as file:
@@ -209,12 +212,16 @@ class TestPutBack(Backups):
             return changing.go_back(self.value, ["back"], copy, lambda lost: True, state)
 
     def test_into_an_empty_folder_with_its_notebook(self):
-        before = snapshot.name_now(self.value)
+        before, synced = snapshot.name_now(self.value), []
         for ending in ("", "-wal"):
             os.remove(self.path + ending)
         with open(self.path + "-wal", "wb") as old:  # of another office
             old.write(self.second or b"x" * 4000)
-        self.assertEqual(self.put_back("", self.zip(**{"notebook/school.json": '"Hill"'})), (True, [], None))
+        with mock.patch("os.fsync", lambda file: synced.append(os.readlink(f"/proc/self/fd/{file}"))):
+            self.assertEqual(self.put_back("", self.zip(**{"notebook/school.json": '"Hill"'})), (True, [], None))
+        self.assertFalse(os.path.exists(self.path + "-wal"))
+        for place in "/notebook/school.json", "/notebook", self.desk:
+            self.assertTrue(any(path.endswith(place) for path in synced), place)
         self.assertEqual((snapshot.name_now(self.value), self.office("check")), (before, "good\n"))
         self.assertEqual((self.office("school"), notebook.school_name(self.value)), ("Hill\n", "Hill"))
         self.assertEqual(stat.S_IMODE(os.stat(self.path).st_mode), 0o600)

@@ -155,6 +155,15 @@ class Copies(Beside):
             self.assertEqual([back.copy, first], copies.listed(self.value))
             self.assertEqual([copies.keep_copy(self.value, "reinstate")], copies.listed(self.value))
 
+    def test_a_second_file_without_a_change_is_none(self):
+        copy = copies.keep_copy(self.value, "withdraw")
+        with contextlib.suppress(FileNotFoundError):
+            os.remove(copies.file_in(self.value, copy) + "-wal")
+        self.write("office.db-wal", bytes(copies.EMPTY_LOG))
+        self.assertTrue(copies.is_as_now(self.value, copy))
+        self.write("office.db-wal", bytes(copies.EMPTY_LOG + 1))
+        self.assertFalse(copies.is_as_now(self.value, copy))
+
     def test_a_copy_of_1_0_0_is_put_back(self):
         before = self.office("export", "MON-AM")
         self.office("withdraw", "0001000", "MA-1")
@@ -241,6 +250,17 @@ class Private(Beside):
         self.environment["TMPDIR"] = os.path.join(self.folder, "elsewhere")
         os.mkdir(self.environment["TMPDIR"])
 
+    @unittest.skipUnless(os.getuid() == 0, "only root can give a folder away")
+    def test_what_is_another_users_or_a_link_stays(self):
+        place = self.environment["TMPDIR"]
+        other, link = (os.path.join(place, private.PREFIX + name) for name in ("other", "link"))
+        os.mkdir(other)
+        os.chown(other, NOBODY, NOBODY)
+        os.symlink(self.folder, link)
+        before = os.listdir(self.folder)
+        private.sweep(place)
+        self.assertEqual((os.listdir(other), os.path.islink(link), os.listdir(self.folder)), ([], True, before))
+
     def test_a_full_disk(self):
         real = private.copy_files
 
@@ -272,13 +292,30 @@ class Private(Beside):
                 self.assertEqual(os.listdir(folder), ["lock"])
 
 
+    def test_what_tells_two_moments_apart(self):
+        """Whether the first file has another time, and the second another beginning; nothing just behind a change."""
+        path, second, changed = self.write("x.db", "x"), self.write("x.db-wal", "a" * 40), 10 ** 18
+        os.utime(path, ns=(0, changed))
+        first = private.moment(path)
+        for text, time_of, is_same in (("a" * 99, 0, True), ("a" * 40, 1, False), ("b" + "a" * 39, 0, False), ("", 0, False)):
+            self.write("x.db-wal", text)
+            os.utime(path, ns=(0, changed + time_of))
+            self.assertEqual(private.moment(path) == first, is_same, text)
+        os.remove(second)
+        self.assertNotEqual(private.moment(path), first)
+        for since, is_none in ((0, True), (19_999_999, True), (20_000_000, False), (-1, False)):
+            os.utime(path, ns=(0, changed))
+            with mock.patch("time.time_ns", return_value=changed + since):
+                self.assertEqual(private.moment(path) is None, is_none, since)
+
     def test_what_changes_meanwhile_is_copied_again(self):
         """Of the moments before and after each try the third is another one; at last there are none."""
         for moments, tries in (([None, 1, 2, 3, 3], 2), ([None] * 3, 0)):
             target = os.path.join(self.folder, f"copy{tries}")
             with (mock.patch("exam_desk.private.moment", side_effect=moments), mock.patch("exam_desk.private.PAUSE", 0),
-                  mock.patch("exam_desk.private.TRIES", 3), mock.patch("exam_desk.private.copy_still") as copied,
-                  contextlib.suppress(OSError) if tries else self.assertRaisesRegex(OSError, "changes all the time")):
+                  mock.patch("exam_desk.private.TRIES", 3),
+                  mock.patch("exam_desk.private.copy_still", side_effect=lambda _, new: open(new, "xb").close()) as copied,
+                  contextlib.nullcontext() if tries else self.assertRaisesRegex(OSError, "changes all the time")):
                 private.copy_files(self.path, target)
             self.assertEqual(copied.call_count, tries)
 
@@ -298,6 +335,19 @@ class Log(Beside):
         self.run_office(*words, EXAMOFFICE=self.program("kill -TERM $PPID; exec sleep 5"))
         self.assertEqual([line for line in self.log()[1:] if line[1] != "begins"], [
             [" ".join(words), "1", "broken off"], [" ".join(words), "1", "stopped: look whether it is done"]])
+
+    def test_nothing_in_a_line_is_a_line_or_a_column(self):
+        """The name of a file that a browser brings can hold all letters."""
+        forged = "take a\t0\tdone\n2027-01-01 00:00:00\troot\tinit\t0\tready\x1b[2J\u2028\u202e"
+        logbook.write(self.value, [forged], 0, forged)
+        shown = "take a?0?done?2027-01-01 00:00:00?root?init?0?ready?[2J??"
+        self.assertEqual(self.log(), [[shown, "0", shown]])
+
+    def test_a_lodging_without_an_end_is_nothing_that_was_broken_off(self):
+        """It goes the candidates' way, beside changes: one that is under way is no change that was killed."""
+        for command, is_one in ("lodge", False), ("withdraw", True):
+            logbook.write(self.value, [command, "0001051", "MON-AM", "hall", "PC1", "a draught"], logbook.BEGINS, "")
+            self.assertEqual(logbook.unfinished(self.value) is not None, is_one)
 
     def test_a_copy_says_what_it_is_from_before(self):
         """In the words of the log, cut between two words where they are many; the name of its folder has fewer letters."""
@@ -377,17 +427,44 @@ class Back(Beside):
         self.assertEqual(self.log()[-1][1:], ["0", "; ".join([self.log()[-1][2].split("; ")[0],
                                                               *(line.removeprefix("taken away: ") for line in lines)])])
 
-    def test_nothing_is_done_where_more_came_or_somebody_changed_the_office(self):
+    def answer(self, process):
+        process.stdin.write("y\n")
+        process.stdin.flush()
+
+    def test_it_asks_again_where_more_came(self):
         self.office("withdraw", "0001017", "MA-1")
-        for change, said in ((lambda: self.change(APPEAL, "HA1"), "other appeals or decisions would be taken away by now"),
-                             (lambda: self.office("withdraw", "0001000", "MA-1"), "the office has changed since you looked")):
-            process = self.ask()
-            self.question(process)
-            change()
-            before, log = snapshot.name_now(self.value), len(self.log())
-            self.assertIn(said, process.communicate("y\n")[1])
-            self.assertEqual((process.returncode, snapshot.name_now(self.value), len(self.log())), (1, before, log))
-        self.assertIn("the office is as it was", self.office("back", "2", stdin="y\n"))
+        process = self.ask()
+        self.assertNotIn("taken away", self.question(process))
+        self.change(APPEAL, "HA1")
+        self.answer(process)
+        first = "taken away: appeal 0001051 HA1 for MON-AM: open -> gone\n"
+        again = "the office has changed since the question, and nothing is done yet: put back the office of "
+        self.assertIn(first + again, self.question(process))
+        self.change(APPEAL, "HA2")
+        self.answer(process)
+        self.assertIn(first + first.replace("HA1", "HA2") + again, self.question(process))
+        self.assertEqual(process.communicate("\n")[1], "office: nothing is changed\n")
+        self.assertEqual(len(self.log()), 2)
+        self.assertIn("the office is as it was", self.office("back", "1", stdin="y\n"))
+
+    def test_it_asks_again_where_somebody_changed_the_office(self):
+        self.office("withdraw", "0001017", "MA-1")
+        process = self.ask()
+        self.question(process)
+        self.office("withdraw", "0001000", "MA-1")
+        before, log = snapshot.name_now(self.value), len(self.log())
+        self.answer(process)
+        self.assertIn("changed since the question, and nothing is done yet: put back the office of ", self.question(process))
+        self.assertEqual(process.communicate("\n")[1], "office: nothing is changed\n")
+        self.assertEqual((snapshot.name_now(self.value), len(self.log())), (before, log))
+
+    def test_whose_candidates_are_others_may_be_another_schools(self):
+        """Where fewer than half of the 60 are alike, in name or code."""
+        copy = copies.keep_copy(self.value, "withdraw")
+        for others, is_other in ((30, False), (31, True)):
+            self.change("UPDATE candidate SET name = 'x', code = 'X' || number WHERE number IN "
+                        "(SELECT number FROM candidate ORDER BY number LIMIT ?)", others)
+            self.assertEqual(copies.OTHERS in [said.text for said in copies.losses(self.value, copy)], is_other)
 
     def test_an_office_that_cannot_be_read(self):
         self.office("withdraw", "0001017", "MA-1")

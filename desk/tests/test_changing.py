@@ -437,9 +437,14 @@ class Killed(Changing):
                              f"^office: `back 1` of .* was broken off{said}\n")
 
     def test_the_title_that_a_person_typed_is_said(self):
-        self.broken_off("open-hall", "MON-AM", "PC1", "12", "12:30", before="import openings")
-        self.assertRegex(self.run_office("look", "Ada").stderr, "^office: `open-hall MON-AM PC1 12 12:30` of .* was broken "
-                                                               "off, and the office is as before: give it again\n")
+        words = ["open-hall", "MON-AM", "GYM", "12", "12:30", "--reserved"]
+        self.broken_off(*words, before="import openings")
+        self.assertRegex(self.run_office("look", "Ada").stderr, f"^office: `{' '.join(words)}` of .* was broken off, and the "
+                                                               "office is as before: give it again\n")
+        self.assertEqual(self.run_office(*words).stdout, "added 0 changed 1 same 0\n")
+        with snapshot.rows(self.value) as rows:
+            self.assertEqual([*map(tuple, rows.execute("SELECT desks, until, reserved FROM opening WHERE (session, hall) = "
+                                                       "('MON-AM', 'GYM')"))], [(12, 750, 1)])
 
     def test_a_change_that_is_under_way_is_not_broken_off(self):
         going, may_end = (os.path.join(self.folder, name) for name in ("going", "may_end"))

@@ -149,7 +149,7 @@ class Verdicts(sample.SampleSchool):
         done = self.run_office("check-files", "facts", OFFICE=none)
         self.assertEqual((done.returncode, done.stderr), (1, ""))
         self.assertEqual(done.stdout, f"{line}7 files, 0 mistakes, 0 notes\n")
-        self.assertIn(line, self.run_office("check-files", "facts").stdout)
+        self.assertEqual(self.run_office("check-files", "facts").stdout, f"{line}7 files, 0 mistakes, 0 notes\n")
         self.assertIn("refused 1 record 1 column 3\n", self.refused("import", "candidates", path))
         self.assertIn("candidates!C2:C61: code (empty) became the one that the office has; 60 times\n",
                       self.office("take", "facts", "--yes"))
@@ -195,6 +195,15 @@ class Words(unittest.TestCase):
         self.assertEqual(self.mistakes_in("candidates", text)[0], [
             "write WK3DEGZDPC (8 to 16 of A-Z and 0-9)",
             "write 0001000 (seven digits; format the column as text)", "1 to 80 bytes; it has 0"])
+
+    def test_no_more_lines_are_counted_than_there_are(self):
+        for more, last in ((0, "c.csv line 6: minutes 'x': a whole number from 1 to 600"), (1, "c.csv: .. and 1 more line on minutes")):
+            found = mistakes.Found(5)
+            for line in range(2, 7 + more):
+                found.add(line, "minutes", field=b"x")
+            lines = [*checking.lines_on("c.csv", found, "")]
+            self.assertEqual((5 + more, last), (len(lines), lines[-1]))
+        self.assertEqual("a whole number from 1 to 600", mistakes.cure("minutes", 199 * b"0" + b"90").text)  # a long value has none
 
     def test_lost_zeros_are_told_of_a_row_that_is_there_with_them(self):
         found, notes = self.mistakes_in("entries", b"number,paper\n0001000,MA-1\n1000,MA-1\n0001000,MA-1\n")

@@ -6,7 +6,7 @@ import unittest
 from unittest import mock
 
 import sample
-from exam_desk import changing, copies, effects, telling
+from exam_desk import beside, changing, copies, effects, telling
 from exam_desk.office import Office
 from exam_desk.reading import Person, Sitting
 from exam_desk.sheets import papers
@@ -27,7 +27,7 @@ def met(changes, clashing=()):
     """Whom these changes meet, and these new clashes."""
     found = effects.Effects.__new__(effects.Effects)
     found.kinds, found.clashes, found.overlaps, found.over = telling.by_kind(changes), clashing, [], {}
-    found.out_of_date, found.codes = {}, []
+    found.out_of_date, found.codes, found.opened = {}, [], {}
     return found.met
 
 
@@ -73,7 +73,7 @@ class Kinds(unittest.TestCase):
         changes = [change(old_name="Eda", number=f"000000{number}") for number in range(5)]
         self.assertEqual(brief(changes), ["5 have other names: 0000000 Ada; 0000001 Ada; 0000002 Ada and 2 more"])
         later = [change(new=SITTING._replace(finish="10:15"), session=session) for session in ("S1", "S2", "S3", "S4")]
-        self.assertEqual(brief(later), ["1 sits at another time (4 sessions): 1 in S1, 1 in S2, 1 in S3 and 1 more"])
+        self.assertEqual(brief(later), ["1 sits at another time (4 sessions): 0000001 Ada"])
 
     def test_people_are_counted_and_sittings_beside_them(self):
         later = SITTING._replace(finish="10:15")
@@ -129,6 +129,21 @@ class Told(sample.SampleSchool):
         self.assertIn("2 without a desk: 2 in MON-AM (before 24)", self.told("open-hall", "MON-AM", "GYM", "24", "18:00"))
         has_desk = self.told("withdraw", "0001051", "PH-1")
         self.assertNotIn("without a desk", "".join(has_desk))
+
+    def test_a_closed_hall_opens_again(self):
+        """By the next import of the same openings, however long the log has become; no other hall is named."""
+        day = datetime.date.today().isoformat()
+        self.office("close-hall", "MON-AM", "GYM")
+        with open(os.path.join(self.desk, "log"), "a", encoding="utf-8") as log:
+            log.write("2027-05-01 10:00:00\ttester\tclose-hall MON-AM R14\t1\trefused 25\n" + "x\n" * beside.LAST_BYTES)
+        self.assertNotIn("open again", "\n".join(self.told("open-hall", "MON-AM", "R14", "2", "12:30")))
+        words = ["import", "openings", str(self.examples / "openings.csv")]
+        self.assertIn("1 hall that was closed is open again\n  MON-AM GYM (closed on "
+                      f"{day}): afterwards `office close-hall MON-AM GYM` closes it\n", self.office("what-if", *words))
+        self.assertEqual(self.told(*words)[0], f"1 hall that was closed is open again: MON-AM GYM (closed on {day})")
+        self.assertNotIn("open again", self.office("what-if", *words))
+        self.office("close-hall", "TUE-AM", "R14")  # whoever was there has a desk elsewhere, or none moves
+        self.assertIn("open again: TUE-AM R14 ", "\n".join(self.told("open-hall", "TUE-AM", "R14", "1", "09:01")))
 
     def test_who_has_no_desk_in_several_sessions_is_one(self):
         """GYM has one desk in each session: of its candidates the lowest numbers stay, so the others are the same people."""

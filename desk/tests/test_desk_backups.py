@@ -88,6 +88,9 @@ class TestBroughtBack(Backups):
         self.assertRegex(sessions, r'(?s)TUE-AM .*?<small>\d+ →</small> <b>–</b>')  # it is gone then
         self.assertIn("tick each of these", self.put_back(page, 422)[1])
         self.put_back(page, lost=lost)
+        said = self.browser.words("/office").partition("The candidates' page")[0]
+        self.assertIn("The office is as in other.zip", said)
+        self.assertNotIn("another school", said)  # it was ticked
         self.assertEqual(len(self.rows("SELECT * FROM candidate")), 100)
         self.assertIn("another school's?", self.log().splitlines()[-1])
         self.assertIn("taken away: only 1 of the 100 candidates of the office ", self.office("what-if", "back", "1"))

@@ -42,6 +42,7 @@ class TestRehearsal(DeskSchool):
         self.assertIn(f"was {was}", re.sub(r"\s+", " ", words))
         self.assertIn("1 would have another name", words)
         self.assertNotIn("another access code", words)
+        self.assertNotIn('id="of-sessions"', self.browser.get(page))  # as many sit there as before
         self.browser.post(page + "/do", page)
         self.assertEqual(self.rows("SELECT name, code FROM candidate WHERE number = 1051"), [("Di <b> Marsh", code)])
         self.assertIn("1 has another name (3 sessions)", self.office("changes", "1"))
@@ -49,10 +50,18 @@ class TestRehearsal(DeskSchool):
         for wrong in ("", "x" * 81):
             _, text = self.browser.post("/propose/name", "/candidates/1051", 422, number="0001051", name=wrong)
             self.assertIn('aria-invalid="true"', text)
+        row = f"number,name,code\n0001051,\u200fDi,{code}\n"
+        self.office("import", "candidates", self.write("candidates.csv", row))
+        page, _ = self.browser.post("/propose/name", "/candidates/1051", number="0001051", name="?Di")  # as its field has it
+        self.assertNotIn("another name", self.browser.words(page))
 
     def test_a_need_that_is_lost_wants_a_tick(self):
         """The hall of 0001153 suits, with a screen or without one; so nothing else is another."""
         page, _ = self.browser.post("/propose/arrangement", "/candidates/1153", number="0001153", extra="25")
+        lodged, _ = self.browser.post("/propose/lodge", "/candidates/1153", number="0001153", session="MON-AM",
+                                      kind="arrangement", wanted_extra="50")
+        self.assertIn("1 would lose a need", self.browser.words(lodged))  # by its grant, which is decided later
+        self.assertNotIn('name="tick"', self.browser.get(lodged))
         words = self.browser.words(page)
         self.assertIn("This is meant: 1 would lose a need ( 3 sessions)", words)
         self.assertIn("loses screen", words.partition("Who would have to be told: 1 candidate")[2])
@@ -122,8 +131,10 @@ class TestRehearsal(DeskSchool):
         self.assertEqual(self.log().count("withdraw 0001051 PH-1\tbegins"), 1)
 
     def test_another_officer_meanwhile(self):
-        page, _ = self.browser.post("/propose/withdraw", "/candidates/1051", number="0001051", paper="PH-1")
-        self.browser.get(page)
+        form = {"number": "0001051", "paper": "PH-1"}
+        for state, is_old in ({"state": "0" * 64}, True), ({}, False):
+            page, _ = self.browser.post("/propose/withdraw", "/candidates/1051", **form, **state)
+            self.assertEqual("has changed since the page that you came from" in self.browser.words(page), is_old)
         other = self.rows("SELECT number FROM entry WHERE paper = 'PH-1' AND number <> 1051")[0][0]
         self.office("withdraw", f"{other:07}", "PH-1")
         before = self.seats()
@@ -269,6 +280,9 @@ class TestAppeals(DeskSchool):
         self.end()
         self.environment["TODAY"] = "2027-06-07"
         self.start()
+        for ref, is_late in ("D1", True), ("D2", False):  # 7 June is the last day to decide on TUE-AM
+            words = self.browser.words(f"/appeals/1051/{ref}")
+            self.assertEqual("The day of the session has come" in words, is_late, ref)
         page, _ = self.browser.post("/propose/decide", "/appeals/1051/D2", number="0001051", ref="D2", outcome="refused")
         self.browser.post(page + "/do", page)
         self.assertRegex(self.browser.get(page), "/appeals/1119/D1\">Next open appeal: .*TUE-AM")
@@ -330,6 +344,7 @@ class TestNotNow(DeskSchool):
         self.browser.post(page + "/do", page)
         self.assertNotIn(REASON, self.log())
         self.assertNotIn(REASON, self.left(page, done=True)[1].partition('id="lodge"')[2])
+        self.assertNotIn("Nothing was done", self.browser.get(path.partition("#")[0]))  # from the browser's history
         page, _ = self.browser.post("/propose/decide", "/appeals/1051/D1", number="0001051", ref="D1",
                                     outcome="refused", reason="no 'asthma' here")
         text = self.left(page)[1]
@@ -382,19 +397,20 @@ class TestBack(DeskSchool):
         for number in ("0001119", "0001306"):
             self.office("lodge", number, "MON-AM", "arrangement", "quiet", "0", "")
         page = f"/office/copies/{key}"
-        lines = re.findall('name="lost" value="([^"]+)"', self.browser.get(page))
+        lines = [*map(html.unescape, re.findall('name="lost" value="([^"]+)"', self.browser.get(page)))]
         self.assertEqual(len(lines), 2)
         for some in ([], lines[:1]):
-            self.browser.post(page + "/back", page, 422, lost=some)
+            _, text = self.browser.post(page + "/back", page, 422, lost=some)
+            self.assertEqual(text.count(" checked"), len(some))
         self.assertEqual(len(self.rows("SELECT * FROM appeal")), 2)
-        self.browser.post(page + "/back", page, lost=[line.replace("&gt;", ">") for line in lines])
+        self.browser.post(page + "/back", page, lost=lines)
         self.assertEqual(self.rows("SELECT * FROM appeal"), [])
 
 
 class TestBesideKeep(DeskSchool):
     def test_no_answer_of_a_candidate_is_lost(self):
         port = sample.free_port()
-        for wrong in ("80", "0090009999"):
+        for wrong in ("80", "1023", "65536", "0090009999"):
             self.browser.post("/office/keep", "/office", 422, what="start", port=wrong)
         with socket.create_server(("127.0.0.1", 0)) as other:
             _, text = self.browser.post("/office/keep", "/office", 422, what="start", port=str(other.getsockname()[1]))

@@ -18,8 +18,12 @@ from unittest import mock
 from exam_desk.workbook.values import Way
 from exam_web import uploads
 upload = uploads.Upload(Way(), books=[("a.csv", b"a;b\\n1;2\\n"), ("b.csv", b"a;b\\n1;2\\n"), ("c.csv", b"x\\n")])
-with mock.patch.multiple(uploads, MOST_CELLS=5, text=lambda words: words):
+with mock.patch.multiple(uploads, MOST_CELLS=5, text=lambda words, **values: words):
     print([sheet.name for sheet in uploads.together(upload).sheets], *map(str, upload.notes), sep="\\n")
+    upload.books, upload.notes = [], []
+    for name, content in ("d.csv", b"12345"), ("e.csv", b"123456"):
+        uploads.take(upload, name, content, 5)
+    print([name for name, _ in upload.books], *map(str, upload.notes), sep="\\n")
 """
 HALLS = b"hall,title,features\nR20,Room,-\n"
 NEW = b"number,name,code\n12001,Nadia,K4WBN7RTQD\n0012008,Tom,\n"
@@ -28,12 +32,6 @@ NEW = b"number,name,code\n12001,Nadia,K4WBN7RTQD\n0012008,Tom,\n"
 class Uploads(DeskSchool):
     def upload(self, *found, **fields):
         return self.browser.send("/files", "/files", "files", *found, **fields)[0]
-
-    def test_cells_of_an_upload_that_are_kept_together(self):
-        """They are as many as those of one workbook: what goes beyond is named, and the others are read."""
-        done = subprocess.run([PYTHON, "-c", KEPT_TOGETHER], cwd=DESK.parent, capture_output=True, text=True, check=True,
-                              env={**os.environ, "PYTHONPATH": str(DESK)})
-        self.assertEqual(done.stdout, "['a', 'c']\n<bdi>b.csv</bdi>: it is too large beside the others: bring it alone\n")
 
     def propose(self, page, status=303, **fields):
         return self.browser.post("/propose/files", page, status, upload=page.rsplit("/", 1)[1], **fields)[0]
@@ -45,6 +43,14 @@ class Uploads(DeskSchool):
 
 
 class TestFiles(Uploads):
+    def test_cells_of_an_upload_that_are_kept_together(self):
+        """They are as many as those of one workbook: what goes beyond is named, and the others are read. A file may have
+        as many bytes as an import takes."""
+        done = subprocess.run([PYTHON, "-c", KEPT_TOGETHER], cwd=DESK.parent, capture_output=True, text=True, check=True,
+                              env={**os.environ, "PYTHONPATH": str(DESK)})
+        self.assertEqual(done.stdout, "['a', 'c']\n<bdi>b.csv</bdi>: it is too large beside the others: bring it alone\n"
+                                      "['d.csv']\n<bdi>e.csv</bdi>: it has more than {most} bytes: split it\n")
+
     def test_mistakes_are_corrected_and_the_import_is_rehearsed(self):
         page = self.upload(("../../etc/passwd", NEW), ("x.csv", b"number,paper\n12001,EN-1\n0012008,EN1\n,\n"))
         self.assertIn("4 mistakes", self.browser.words(page))
@@ -180,6 +186,10 @@ class TestFiles(Uploads):
         text = self.browser.words(page)
         self.assertIn("No mistake", text)
         self.assertIn("0012001", self.browser.ask("GET", page + "/candidates.csv")[1])
+        large = io.BytesIO(workbook({"Halls": [["hall", "title", "features"], ["R20", "Room", "-"]]}))
+        with zipfile.ZipFile(large, "a") as archive:  # with a picture it has more bytes than an import file
+            archive.writestr("xl/media/picture.png", bytes(5_000_000))
+        self.assertIn("No mistake", self.browser.words(self.upload(("halls.xlsx", large.getvalue()))))
         page = self.upload(("students.xlsx", workbook({
             "Sessions": [["session", "date", "start"], ["X-1", "01/06/2027", "9:00"]],
             "Candidates": [["number", "name", "code"], [12001, "Nadia", "K4WBN7RTQD"]]})))
@@ -385,6 +395,14 @@ class TestFiles(Uploads):
         self.carry_out(proposal)
         self.assertEqual(self.live(), before - {numbers[2]})
         self.assertIn("withdraw --list", self.office("back"))
+
+    def test_a_list_for_another_state(self):
+        """Somebody else withdraws an entry of it meanwhile."""
+        numbers, page = self.listed()
+        proposal, before = self.propose(page, choice="withdraw"), self.live()
+        self.office("withdraw", numbers[0], "EN-1")
+        self.assertIn("go back to the form", self.carry_out(proposal))
+        self.assertEqual(self.live(), before - {numbers[0]})
 
     def test_a_list_has_the_zeros_back_that_a_spreadsheet_took(self):
         """Each number that lacks them has a cure that is clear; one button takes all."""
@@ -629,6 +647,7 @@ class TestBegin(Uploads):
         self.browser.post("/init", "/")
         for path in ("/", "/files", "/candidates", "/appeals", "/clashes", "/office", "/candidates?q=x"):
             self.browser.get(path)
+        self.assertNotIn("Look also for", self.browser.words("/"))  # there is no session
         found = [(f"{kind}.csv", (self.examples / f"{kind}.csv").read_bytes()) for kind in KINDS]
         page = self.upload(*found)
         proposal = self.propose(page)

@@ -109,7 +109,7 @@ class TestPrinting(DeskSchool):
         self.assertIn("The papers of MON-AM are out of date: AULA", self.browser.words("/?piece"))
 
     def test_sessions_go_by_day_and_start(self):
-        """In what a change did, in the form that lodges an appeal, and in what the season asks for."""
+        """In what a change did, in the form that lodges an appeal, in what the season asks for, and beside a session."""
         for kind, rows in (("sessions", "session,date,start\nZ-1,2027-06-07,07:30\nA-9,2027-06-09,09:00\n"),
                            ("papers", "paper,title,session,minutes,requires\nZA,Z,Z-1,60,-\nZB,Z,Z-1,60,-\n"
                             "AA,A,A-9,60,-\nAB,A,A-9,60,-\n"),
@@ -125,6 +125,10 @@ class TestPrinting(DeskSchool):
         form = self.browser.get("/candidates/1051").partition('<select name="session"')[2].partition("</select>")[0]
         self.assertEqual(re.findall(r"<option[^>]*>([^<]*)", form), ["Z-1", "MON-AM", "MON-PM", "TUE-AM", "A-9"])
         self.assertEqual(re.findall(r'href="[^"]*/appeals#([^"]*)"', self.browser.get("/")), ["Z-1", "MON-AM"])
+        for session, beside in (("Z-1", [("MON-AM", "next")]), ("MON-AM", [("Z-1", "prev"), ("MON-PM", "next")]),
+                                ("A-9", [("TUE-AM", "prev")])):
+            text = self.browser.get(f"/sessions/{session}")
+            self.assertEqual(re.findall(r'/sessions/([^"]+)" rel="(prev|next)"', text), beside)
 
     def test_a_rehearsal_says_which_printed_papers_would_be_out_of_date(self):
         """The halls that `office printed --look` names once it is done; nothing where nobody noted what is printed."""
@@ -290,6 +294,7 @@ class TestTheDay(DeskSchool):
         self.browser.post(page + "/absent", page + "/halls/PC1", absent=["0001051"], was=["0001051", "0001119"])
         text = self.browser.get(page + "/halls/PC1")
         self.assertEqual(re.findall(r'value="(\d{7})"[^>]*checked', text), ["0001051"])
+        self.assertIn("<button>Note who was absent</button>", text)
         self.assertEqual(self.browser.ask("GET", page + "/attendance.csv")[1], self.office("absent", "MON-AM"))
         self.assertIn('"0001051","CS-1","absent"', self.office("absent", "MON-AM"))
         for wrong in ("x1051", "9999999", "0001051 x", ""):
@@ -342,7 +347,7 @@ class TestTheDay(DeskSchool):
         self.browser.post(page + "/absent", page, numbers="0001119")
         self.assertRegex(self.log(), r"\(ab, desk\)\tabsent MON-AM\t0\tabsent 0001119\n")
         self.assertEqual(notebook.absent(self.value, "MON-AM"), {"0001051", "0001119"})
-        notebook.keep_absent(self.value, "MON-AM", ["9999999"], [])  # a copy from before they came was put back
+        notebook.keep(self.value, "absent.MON-AM", lambda _: ["9999999"])  # a copy from before they came was put back
         said = self.browser.words(page)
         self.assertIn("lacks them: 0001051, 9999999 ", said)
         self.assertIn("1 candidate is noted as absent", said)

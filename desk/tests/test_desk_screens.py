@@ -377,7 +377,9 @@ class TestSchool(DeskSchool):
     def test_its_name(self):
         self.ask(' "Hill" & <b>Cö</b> ')
         self.assertEqual(self.office("school"), '"Hill" & <b>Cö</b>\n')
+        self.browser.get("/?piece")  # of another tab: it says nothing
         text = self.browser.get("/office")
+        self.assertIn("The papers of the school have its name now.", text)
         self.assertIn('name="name" value="&#34;Hill&#34; &amp; &lt;b&gt;Cö&lt;/b&gt;"', text)
         self.assertIn("&#34;Hill&#34; &amp; &lt;b&gt;Cö", self.browser.get("/sessions/MON-AM/print/doors"))
         for wrong in ("é" * 41, "x" * 81, "a\nb", "a\x7f"):
@@ -393,6 +395,9 @@ class TestSchool(DeskSchool):
         self.assertEqual(self.office("school"), "é" * 40 + "\n")
         self.ask("")
         self.assertEqual(self.office("school"), "no name\n")
+        self.office("school", "\u200fHill")
+        self.ask("?Hill")  # as its field has it
+        self.assertIn(r"\u200f", pathlib.Path(self.desk, "notebook", "school.json").read_text("ascii"))
 
 
 class TestHandbook(DeskSchool):

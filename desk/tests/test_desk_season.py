@@ -124,6 +124,10 @@ class TestWhatNeedsAPerson(DeskSchool):
         urgent = [(["late", "now", "soon", "note"].index(level), day) for level, day in found]
         self.assertEqual(urgent, sorted(urgent))
         self.assertGreater(len(self.links("/?piece")), len(self.links("/")))
+        self.end()
+        self.environment["TODAY"] = "2027-06-03"  # three days before the last one to decide on MON-AM
+        self.start()
+        self.assertIn('<li class="now"><span class="when">by <time datetime="2027-06-06">', self.browser.get("/"))
 
 
 class TestClashes(SmallSchool):

@@ -1,4 +1,5 @@
 """What may be a slip, at the desk in a browser: a change of a session that is over."""
+import datetime
 import unittest
 
 from desk_client import DeskSchool, effects
@@ -28,6 +29,17 @@ class TestTuesday(DeskSchool):
         page, _ = self.browser.post("/propose/withdraw", "/candidates/1051", number="0001051", paper="PH-1")
         self.assertNotIn("over", effects(self.browser.get(page)))
 
+    def test_a_closed_hall_opens_again(self):
+        self.office("close-hall", "TUE-AM", "GYM")
+        form = {"session": "TUE-AM", "desks": "24", "until": "12:30"}
+        page, _ = self.browser.post("/propose/open", "/sessions/TUE-AM", hall="GYM", **form)
+        self.assertEqual(effects(self.browser.get(page))["opened"], (1, 1))
+        self.assertIn(f"Closed halls that open again: GYM (TUE-AM, {datetime.date.today()}).", self.words(page))
+        self.browser.post(page + "/do", page)
+        self.assertIn("1 hall that was closed is open again", self.words(page))
+        page, _ = self.browser.post("/propose/open", "/sessions/TUE-AM", hall="AULA", **form)
+        self.assertNotIn("opened", effects(self.browser.get(page)))
+
     def test_a_new_season(self):
         """The files of last year with other days: each of the three sessions has been."""
         self.end()
@@ -38,7 +50,8 @@ class TestTuesday(DeskSchool):
         page, _ = self.browser.post("/propose/files", where, upload=where.rpartition("/")[2])
         self.assertIn("Is this a new season? It wants a new office in a new folder", self.words(page))
         self.assertIn("/handbook#backup-and-moving-house", self.browser.get(page))
-
+        self.browser.post(page + "/do", page)
+        self.assertIn("Mon 5 Jun 2028", self.words("/candidates/1000"))  # a day of this year has none behind it
 
 
 if __name__ == "__main__":

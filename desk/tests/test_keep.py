@@ -242,8 +242,11 @@ class NewDay(sample.SampleSchool):
 
 class Lodged(sample.SampleSchool):
     def test_lodge_without_keep(self):
-        self.assertEqual(self.office("lodge", NUMBER, "MON-AM", "arrangement", "screen+reader", "25", ""),
+        self.assertEqual(self.office("lodge", NUMBER, "MON-AM", "arrangement", "screen+reader", "25", "asthma"),
                          f"{NUMBER} D1 open\n")
+        with open(os.path.join(self.desk, "log"), encoding="utf-8") as log:
+            self.assertEqual([line.split("\t")[2] for line in log],
+                             [f"lodge {NUMBER} MON-AM arrangement screen+reader 25"] * 2)
         self.assertIn("refused 13 last day 2027-05-28\n  the last day",
                       self.refused("lodge", NUMBER, "MON-AM", "arrangement", "-", "25", "", TODAY="2027-05-29"))
         self.assertIn("the office has no candidate 0009999", self.refused("lodge", "0009999", "MON-AM", "hall", "PC1", ""))

@@ -174,13 +174,23 @@ class Lists(sample.SampleSchool):
         names = re.findall(r"^\d{7} (.*)", self.office("look", "SORENSEN"), re.MULTILINE)
         self.assertEqual(names, ["Frida Sørensen", "Jonas Sørensen", "Petra Sørensen"])
         self.assertIn("no candidate has nobody", self.refused("look", "nobody"))
-        self.assertIn("candidates; say more of the name", self.office("look", "a"))
+        for numbers, is_short in (("1000 AND 1153", False), ("1000 AND 1170", True)):  # ten, and one more
+            self.change(f"UPDATE candidate SET name = 'Quillon' WHERE number BETWEEN {numbers}")
+            said = self.office("look", "quillon")
+            self.assertEqual(("11 candidates; say more of the name" in said, ", until " in said), (is_short, not is_short))
         self.office("withdraw", "0001051", "LAT")
         self.assertIn("LAT Latin: withdrawn\n", self.office("look", "0001051"))
         self.assertIn("  imported arrangement: needs -, extra 25\n", self.office("look", "0001034"))
 
+    def test_who_has_two_papers_at_once_by_name(self):
+        self.change("UPDATE candidate SET name = 'Zoë Zorn' WHERE number = 1561")
+        self.assertEqual(self.office("look", "--clashes", "MON-AM").split("\n")[:4], [
+            "MON-AM: 4 candidates with two papers or more", "  LAT is sat, MA-1 is missed: 2 candidates",
+            "    0001816 Yara Keller", "    0001561 Zoë Zorn"])
+
     def test_summary(self):
-        self.change(APPEAL, [1051, "HA1", "MON-AM", 1, "PC1", 0, 0, "", 1, None, "2027-05-02"])
+        for ref, state in (("HA1", 1), ("HA2", 4)):
+            self.change(APPEAL, [1051, ref, "MON-AM", 1, "PC1", 0, 0, "", state, None, "2027-05-02"])
         rows = [line.split() for line in self.office("summary").split("\n")[1:-1]]
         self.assertEqual(rows, [["MON-AM", "2027-06-07", "09:00", "60", "58", "2", "58", "0", "4", "0", "1"],
                                 ["MON-PM", "2027-06-07", "13:30", "60", "58", "2", "58", "0", "0", "0", "0"],
@@ -269,6 +279,8 @@ class Lists(sample.SampleSchool):
         self.assertEqual(other["0001068"], known["0001068"])
         self.assertFalse({other["0001051"], other["0001085"]} & {*known.values(), *codes.values()})
         self.assertIn("0001000 is not in", self.refused("codes", path, "--output", "q.csv", "--new", "0001000"))
+        for words in (["1051", "--new", "1068"], ["1051", "--output", "q.csv"], [path, "1051"]):  # nobody else's are left out
+            self.assertIn("name one file, or numbers alone", self.run_office("codes", *words).stderr)
         self.assertIn("line 1 must be: number,name,code", self.refused("codes", self.write("bad.csv", "number\n")))
         self.assertEqual(self.run_office("codes", path, "1051").returncode, 2)
 
@@ -284,6 +296,8 @@ class Lists(sample.SampleSchool):
         self.assertEqual([name for name in os.listdir(self.folder) if name.endswith(".csv")], [])
         self.assertRegex(self.office("back"), "before codes 0001051\n")
         self.assertIn("the office has no candidate 0009999", self.refused("codes", "1051", "9999"))
+        with mock.patch("secrets.choice", side_effect="WK3DEGZDPC" + "D" * 10):  # the code of 0001000
+            self.assertIn(b'"Di Berg","DDDDDDDDDD"', coding.other_rows(self.value, ["0001051"]).data)
 
     def faults(self, session, change=lambda sheet: sheet):
         with Reading(self.value) as reading:
@@ -323,6 +337,15 @@ class Lists(sample.SampleSchool):
         os.chmod(program, 0o700)
         for command in ("why", "print-session", "session-page"):
             self.assertRegex(self.refused(command, "MON-AM", EXAMOFFICE=program), "refused 24.*nothing is printed")
+
+    def test_a_sheet_that_says_otherwise_is_no_success(self):
+        program = self.write("program", f"""#!/bin/sh\ncase "$*" in *shortage*) {sample.built_program()} "$@" | sed s/unseated.2/unseated\\ 1/;;
+            *) exec {sample.built_program()} "$@";; esac\n""")
+        os.chmod(program, 0o700)
+        done = self.run_office("why", "TUE-AM", EXAMOFFICE=program)
+        self.assertEqual((done.returncode, done.stderr), (1, "office: the printed shortage says otherwise: unseated: the "
+                                                             "sheet counts 1, and there are 2\n"))
+        self.assertIn("0001221 Nora Haddad sits BI-1 until 10:45", done.stdout)
 
     def test_signals_leave_nothing(self):
         slow = self.write("slow", "#!/bin/sh\nsleep 30\n")

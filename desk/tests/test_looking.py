@@ -10,7 +10,7 @@ from exam_desk import notebook
 class Looking(sample.SampleSchool):
     def test_a_candidate_with_the_note_and_absences(self):
         notebook.take_notes(self.value, {sample.NUMBER: "\u009brest breaks"})
-        notebook.keep_absent(self.value, "MON-AM", [sample.NUMBER], [])
+        notebook.keep(self.value, "absent.MON-AM", lambda _: [sample.NUMBER])
         self.office("withdraw", sample.NUMBER, "LAT")
         self.assertIn("\n  note: ?rest breaks\n  noted as absent in MON-AM\n", self.office("look", sample.NUMBER))
         self.assertNotIn("note", self.office("look", "0001000"))

@@ -5,7 +5,7 @@ import sys
 import unittest
 
 sys.path.insert(0, str(pathlib.Path(__file__).resolve().parents[1]))
-from exam_desk import lists  # noqa: E402
+from exam_desk import lists, words  # noqa: E402
 
 # In the order of a list: the surname is what stands before a comma, otherwise the last word.
 IN_ORDER = [
@@ -39,6 +39,14 @@ class Names(unittest.TestCase):
         for name, parts in {"Nuñez,  María-José": ("Nuñez", "María-José"), "Ada Lin": ("Lin", "Ada"), "Ellis": ("Ellis", ""),
                             "Jan van der Berg": ("Berg", "Jan van der"), ", Zed": ("Zed", ""), " ": ("", "")}.items():
             self.assertEqual(lists.parted(name), parts)
+
+    def test_what_hides_is_shown(self):
+        for sign in "\0\t\n\r\x1b\x7f\x80\x85\x9b\x9f\u061c\u200e\u200f\u2028\u2029\u202a\u202b\u202c\u202d\u202e\u2066\u2067\u2068\u2069":
+            self.assertEqual(words.plain(f"a{sign}b"), "a?b", ascii(sign))
+        self.assertEqual(words.plain("\u00a0é\u05d0\u2027\u202f\u206a"), "\u00a0é\u05d0\u2027\u202f\u206a")
+
+    def test_the_first_of_many(self):
+        self.assertEqual([words.few([*"abcd"][:count], 3) for count in (0, 1, 3, 4)], ["", "a", "a, b, c", "a, b, c and 1 more"])
 
     def test_namesakes_by_number(self):
         numbers = ["0000010", "0000002", "0000001"]

@@ -21,7 +21,7 @@ class NewOffice(test_changing.Changing):
         super().setUp()
         self.office("withdraw", "0001000", "MA-1")
         notebook.take_notes(self.value, {sample.NUMBER: "scribe"})
-        notebook.keep_absent(self.value, "MON-AM", [sample.NUMBER], [])
+        notebook.keep(self.value, "absent.MON-AM", lambda _: [sample.NUMBER])
         self.move_away()
 
     def move_away(self):

@@ -24,6 +24,7 @@ from exam_desk.notebook import Rows  # noqa: E402
 from exam_desk.office import Office  # noqa: E402
 from exam_desk.on_paper import Line  # noqa: E402
 from exam_desk.office import Trouble  # noqa: E402
+from exam_desk.reading import Reading  # noqa: E402
 
 HOSTILE = '=1+1 "quoted", <b>bold</b> \u202eleft \u009b2J é'
 KNOWN = {"0000001", "0000002", "0000003"}
@@ -104,7 +105,8 @@ class Notebook(unittest.TestCase):
 
     def test_printed(self):
         lines = {"0000001": Line("A", 1), "0000002": Line("A", 2), "0000003": Line("B", 1)}
-        notebook.keep(self.office, "printed.S1", lambda _: {number: [*line[:2], "0"] for number, line in lines.items()})
+        notebook.keep(self.office, "printed.S1", lambda _: {  # as earlier versions did
+            "noted": ["root", 3, "2027-05-01 08:15"], **{number: [*line[:2], "0"] for number, line in lines.items()}})
         self.assertEqual((on_paper.noted(self.office, "S1").lines, on_paper.noted(self.office, "S2").lines), (lines, {}))
         now = {"0000002": Line("A", 1), "0000003": Line("B", 1), "0000004": Line("C", 1)}
         self.assertEqual([move.number for move in on_paper.moves(lines, now)], ["0000001", "0000002", "0000004"])
@@ -115,24 +117,6 @@ class Notebook(unittest.TestCase):
         for wrong in (Rows(0, "down"), Rows(101, "down"), Rows(3, "up")):
             self.assertRaisesRegex(Trouble, "a row has 1 to 100 desks", notebook.keep_rows, self.office, "A", wrong)
         self.assertEqual(notebook.rows_of_halls(self.office), {"A": Rows(100, "down")})
-
-    def test_absent(self):
-        self.assertEqual(notebook.keep_absent(self.office, "S1", ["0000002", "0000001"], []), {"0000001", "0000002"})
-        self.assertEqual(notebook.keep_absent(self.office, "S1", ["0000003"], ["0000001"]), {"0000002", "0000003"})
-        self.assertEqual((notebook.absent(self.office, "S1"), notebook.absent(self.office, "S2")),
-                         ({"0000002", "0000003"}, None))
-
-    def test_nobody_is_absent_where_somebody_says_so(self):
-        notebook.keep_absent(self.office, "S1", ["0000001"], [])
-        self.assertRaisesRegex(Trouble, "since these are absent: 0000001", notebook.keep_absent, self.office, "S1", [],
-                               [], True)
-        self.assertEqual(notebook.keep_absent(self.office, "S1", [], ["0000001"]), set())
-        self.assertIsNone(notebook.absent(self.office, "S1"))
-        self.assertEqual(os.listdir(self.place), [])
-        notebook.keep_absent(self.office, "S1", [], [], True)
-        self.assertEqual(notebook.absent(self.office, "S1"), set())
-        notebook.keep_absent(self.office, "S1", ["0000002"], [])
-        self.assertEqual(notebook.absent(self.office, "S1"), {"0000002"})
 
     def test_a_session_is_to_come_until_its_day(self):
         office = dataclasses.replace(self.office, today=lambda: datetime.date(2027, 5, 1))
@@ -206,9 +190,10 @@ class Notebook(unittest.TestCase):
         plain = copies.keep_copy(self.office, "withdraw")
         self.assertEqual(sorted(os.listdir(plain)), ["office.db", "title"])
         notebook.take_notes(self.office, {"0000001": HOSTILE})
+        (self.place / "notes.json.new").write_text("{", "ascii")  # of a command that was killed
         copy = pathlib.Path(copies.keep_copy(self.office, "withdraw"), "notebook")
         self.assertEqual({path.name: path.read_bytes() for path in copy.iterdir()},
-                         {path.name: path.read_bytes() for path in self.place.iterdir()})
+                         {"notes.json": (self.place / "notes.json").read_bytes()})
         self.assertEqual(stat.S_IMODE((copy / "notes.json").stat().st_mode), 0o600)
 
 
@@ -239,6 +224,25 @@ class Commands(sample.SampleSchool):
         done = self.run_office("absent", "MON-AM")
         self.assertEqual((done.returncode, done.stderr.startswith(note), bool(done.stderr)), (0, True, bool(note)))
         return list(csv.reader(io.StringIO(done.stdout)))
+
+    def test_who_is_noted(self):
+        """That nobody was absent is noted where somebody says so; else there is no file of nobody."""
+        office = dataclasses.replace(self.value, today=lambda: datetime.date(2027, 6, 7))
+        one, two, three = "0001000", "0001017", "0001034"
+        with Reading(office) as reading:
+            def note(*names):
+                return notebook.note_absent(office, reading, "MON-AM", *names)
+            self.assertEqual(note([two, one]), {one, two})
+            self.assertEqual(note([three], [one]), {two, three})
+            self.assertEqual((notebook.absent(office, "MON-AM"), notebook.absent(office, "MON-PM")), ({two, three}, None))
+            self.assertRaisesRegex(Trouble, f"since these are absent: {two}, {three}", note, [], [], True)
+            self.assertEqual(note([], [two, three]), set())
+            self.assertIsNone(notebook.absent(office, "MON-AM"))
+            self.assertEqual(os.listdir(os.path.join(self.desk, "notebook")), [])
+            note([], [], True)
+            self.assertEqual(notebook.absent(office, "MON-AM"), set())
+            note([two])
+            self.assertEqual(notebook.absent(office, "MON-AM"), {two})
 
     def test_before_the_day_nobody_was_there(self):
         self.environment["TODAY"] = "2027-06-06"  # a day before the session
@@ -275,17 +279,21 @@ class Commands(sample.SampleSchool):
         self.assertEqual(sorted((line.split(",")[1], line.split(",")[2]) for line in members),
                          sorted((line[2], line[3]) for line in lines[1:] if line[4] != "not sat"))
         self.assertIn(["MON-AM", "2027-06-07", "0001306", "MA-2", "not sat"], lines)  # sits LAT, and is entered for both
+        self.assertEqual(lines[1:], sorted(lines[1:], key=lambda line: (line[3], line[2])))
         every = self.run_office("absent")  # MON-PM is on that day too, TUE-AM on the next
         self.assertEqual([line[0] for line in csv.reader(io.StringIO(every.stdout))],
                          ["session", *["MON-AM"] * 64, *["MON-PM"] * 60])
         self.assertEqual(every.stderr.count("NOTE nobody has noted who was absent in MON-"), 2)
         self.assertEqual(self.office("absent", "MON-AM", "0001051"), f"1 candidate absent of {len(members)}\n")
-        self.assertEqual(self.office("absent", "MON-AM", "-", stdin="0001000\n1017, 0001051\n"),
+        self.assertEqual(self.office("absent", "MON-AM", "-", stdin="\ufeff0001000\n1017, 0001051\n"),
                          f"3 candidates absent of {len(members)}\n")
         self.office("absent", "MON-AM", "--there", "0001000")
         self.assertEqual({line[2] for line in self.board() if line[4] == "absent"}, {"0001017", "0001051"})
         self.assertIn("nothing is noted: 0001052: no candidate of MON-AM",
                       self.refused("absent", "MON-AM", "0001000", "1052"))
+        self.assertIn("0001051: absent, or there?", self.refused("absent", "MON-AM", "1051", "--there", "1051"))
+        self.assertIn("more than 4194304 bytes of numbers",
+                      self.refused("absent", "MON-AM", "-", stdin="0001034 " * 600_000))
         for wrong in ("x1051", "00001051", "0000000", "١٠٥١", "10 51"):
             self.assertIn(f"'{wrong}' is no candidate number", self.refused("absent", "MON-AM", "1034", wrong))
         self.assertIn(f"'{'a' * 57}..' is no candidate number", self.refused("absent", "MON-AM", "a" * 99))
@@ -303,6 +311,8 @@ class Commands(sample.SampleSchool):
     def test_printed(self):
         self.office("rows", "GYM", "8")  # the other halls have no chart, since nobody said how their desks stand
         self.assertIn("nobody noted", self.refused("printed", "MON-AM", "--look"))
+        for words in (["XX"], ["XX", "--look"]):
+            self.assertIn("there is no session XX", self.refused("printed", *words))
         foot = re.search("state [0-9a-f]{8}", self.office("board", "MON-AM"))[0]
         self.assertEqual(self.office("printed", "MON-AM"),
                          f"58 desks noted, of {foot}: the foot of each paper must say that\n")
@@ -398,6 +408,9 @@ class Commands(sample.SampleSchool):
             halls_of[paper].update({hall} - {"-"})
         titles = self.write("h.csv", "hall,title,features\nAULA,Great hall,-\n")
         paper = self.write("p.csv", "paper,title,session,minutes,requires\nLAT,Latin 1,MON-AM,90,-\n")
+        self.office("printed", "MON-AM")
+        self.office("import", "papers", self.write("o.csv", "paper,title,session,minutes,requires\nPH-1,Physics 1,TUE-AM,120,-\n"))
+        self.assertEqual(self.office("printed", "MON-AM", "--look"), "the papers are up to date\n")  # none is of that
         of_latin, of_all = (", ".join(sorted(halls)) for halls in (halls_of["LAT"], set().union(*halls_of.values())))
         for words, said, papers in (
                 (("open-hall", "MON-AM", "AULA", "16", "13:00"), "AULA: open until 12:30 -> 13:00", "doors of AULA"),
@@ -521,6 +534,9 @@ class Commands(sample.SampleSchool):
         self.office("import", "arrangements", self.write("more.csv", "number,needs,extra\n0001051,-,25\n"))
         self.assertEqual(re.findall("<td class=w>([^<]*<br><small>was .*?)</td>", self.office("doors", "MON-AM")),
                          ["11:30<br><small>was 11:00</small><br><small>or later</small>"])
+        printed = pathlib.Path(self.desk, "notebook", "printed.MON-AM.json")
+        printed.write_text(json.dumps({**json.loads(printed.read_bytes()), "0001051": ["LIB", 1]}), "ascii")
+        self.assertEqual(re.findall("1 <small>was LIB 1<", self.office("doors", "MON-AM", "PC1")), ["1 <small>was LIB 1<"])
 
     def test_what_is_for_staff_alone(self):
         """It stands on the invigilators' sheet, and is on no slip; a note alone says that the finish may be later."""

@@ -33,6 +33,12 @@ class Faults(unittest.TestCase):
                 command.tell(type(fault), fault, None)
             self.assertEqual(out.getvalue(), f"office: {said}\n")
 
+    def test_the_log_has_who_gave_a_command_by_sudo(self):
+        with mock.patch("exam_desk.beside.user_name", return_value="examoffice"), mock.patch.dict(os.environ, SUDO_USER="ada"):
+            self.assertEqual(command.user(), "ada as examoffice")
+            del os.environ["SUDO_USER"]
+            self.assertEqual(command.user(), "examoffice")
+
 
 class Words(sample.SampleSchool):
     def test_both_kinds_of_commands_are_listed(self):
@@ -120,9 +126,10 @@ class Words(sample.SampleSchool):
         is_open = all(above.stat().st_mode & 0o011 for above in pathlib.Path(self.folder).parents)
         self.office("printed", "MON-AM")
         for words, mode, folder, is_said in (
-                (["printed", "MON-AM", "--look"], 0o604, 0o755, True),  # needs and extra time, before and now
+                *(([*words], 0o604, 0o755, True) for words in (  # with needs, notes or reasons
+                    ["printed", "MON-AM", "--look"], ["changes", self.path], ["why", "MON-AM"], ["notes"], ["appeals-open"])),
                 (["slips", "--codes"], 0o644, 0o755, True), (["doors", "MON-AM"], 0o640, 0o755, True),
-                (["look", "1051"], 0o600, 0o755, False), (["look", "1051"], 0o644, 0o700, False),
+                (["look", "1051"], 0o600, 0o755, False), (["look", "1051"], 0o644, 0o700, False), (["look", "1051"], 0o640, 0o710, True),
                 (["look", "1051"], 0o604, 0o755, True), (["poster", "MON-AM"], 0o644, 0o755, False)):
             os.chmod(self.folder, folder)
             path = self.write("page.html", "")
@@ -181,6 +188,9 @@ class Words(sample.SampleSchool):
         for words in (["import", "entries", path], ["what-if", "import", "entries", path]):
             self.assertEqual(self.run_office(*words).stderr, "  late.csv line 3: NOTE: number '0001000': this entry is "
                              "withdrawn in the office and stays so until it is reinstated\n")
+
+        path = self.write("halls.csv", "hall,title,features\n" + "GYM,Gymnasium,step-free\n" * 2)
+        self.assertEqual(self.run_office("import", "halls", path).stderr, "")
 
     def test_arrangements_in_whose_place_a_grant_is_in_force(self):
         path = self.write("needs.csv", "number,needs,extra\n0001051,-,50\n")
@@ -390,15 +400,23 @@ class Causes(sample.SampleSchool):
             process.stdin.close()
             self.assertEqual(done.result(), "withdrawn\n")
 
+    def test_a_check_waits_too(self):
+        began = os.path.join(self.folder, "began")
+        program = self.write("program", f'#!/bin/sh\n[ -e {began} ] || {{ touch {began}; echo refused 23 >&2; exit 1; }}\n'
+                                        f'exec {sample.built_program()} "$@"\n')
+        os.chmod(program, 0o700)
+        self.assertEqual(self.office("check", EXAMOFFICE=program), "good\n")
+
     def test_who_has_the_file_is_named(self):
         with open(self.path, "rb") as file, subprocess.Popen(["sleep", "60"], stdin=file) as process:
             sample.until(lambda: refusals.holder(self.value))
             self.assertEqual(refusals.holder(self.value), f"process {process.pid} (sleep 60)")
             self.assertEqual(refusals.patience(self.value), turns.PATIENCE)
             process.kill()
-        line = {"args": ["/srv/serve/program", "60"], "executable": "/bin/sleep"}
+        line = {"args": ["/srv/serve/" + 200 * "x", "60"], "executable": "/bin/sleep"}
         with open(self.path, "rb") as file, subprocess.Popen(**line, stdin=file) as process:
             sample.until(lambda: refusals.holder(self.value))
+            self.assertEqual(refusals.holder(self.value), f"process {process.pid} (/srv/serve/{189 * 'x'})")
             self.assertEqual(refusals.patience(self.value), turns.PATIENCE)  # that is no `serve`
             process.kill()
 

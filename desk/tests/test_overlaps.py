@@ -8,6 +8,8 @@ import unittest
 import sample
 from cells import Cells
 
+from exam_desk import overlaps  # beside the tests' folder
+
 FILES = {  # MON-AM begins at 09:00: Ada Lin sits there until 11:00, Cy Ferrari, with extra time, until 12:08
     "sessions": "session,date,start\nHL,2027-06-07,10:00\nT1,2027-06-07,11:00\nHM,2027-06-07,11:30\n"
                 "T2,2027-06-07,12:07\nLT,2027-06-07,23:30\nNX,2027-06-08,00:59\n",
@@ -70,12 +72,23 @@ class Overlaps(sample.SampleSchool):
                 self.office("rows", hall, "4")
                 self.assertEqual(re.findall("also here[^<]*", self.office(paper, session, hall)), wanted, paper)
         hall = next(row[3] for row in rows if row[1] == "0001034")
+        self.office("open-hall", "MON-AM", hall, "6", "12:08", "--reserved")  # it closes as Cy Ferrari ends
+        self.assertIn(f"\nNOTE: {NOTES[1]}\n", self.office("summary"))
         self.office("open-hall", "T2", "R12", "9", "18:00")
         self.assertIn("sits T2 from 12:07, in R12", self.office("doors", "MON-AM", hall))
         self.assertIn(f"sits MON-AM until 12:08, in {hall}", self.office("doors", "T2"))
         told = self.run_office("withdraw", "0001017", "MA-1").stderr  # what was so before is not told again
         self.assertIn("1 leaves a session: MON-AM 0001017 Bo Ito", told)
         self.assertNotIn("at one time", told)
+
+
+class Lines(unittest.TestCase):
+    def test_the_first_of_many(self):
+        """Twenty have a line each; of more the last line says how many these are."""
+        for count, last in ((20, "A and B overlap: candidates of both in H"), (21, ".. and 1 more overlap"),
+                            (22, ".. and 2 more overlaps")):
+            said = overlaps.lines(None, [overlaps.Overlap("A", "B", [], ["H"])] * count)
+            self.assertEqual((len(said), said[-1]), (min(count, 21), last))
 
 
 class Files(sample.SampleSchool):

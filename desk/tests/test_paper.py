@@ -71,6 +71,7 @@ class Papers(sample.SampleSchool):
         slips = [re.findall(r"<span>number (\d{7})</span>", text) for text in groups]
         self.assertEqual((slips[:2], len(slips[2])), ([["0001051", "0001017"], ["0001000"]], 57))
         text = self.office("slips", "--csv", "--only", "0001051", "--order", path)
+        self.assertTrue(text.startswith("\ufeff"))
         rows = list(csv.DictReader(io.StringIO(text.removeprefix("\ufeff"))))
         self.assertEqual([(row["session"], row["finish"], row["not sat"], row["group"], row["desk"] + row["code"])
                           for row in rows], [("MON-AM", "11:00", "LAT", "10B", ""), ("MON-PM", "15:00", "", "10B", ""),
@@ -152,6 +153,7 @@ class Papers(sample.SampleSchool):
         self.assertEqual(rows, [[*row[:4], ""] for row in sheet])
         self.assertTrue(any(row[5] for row in sheet))
         self.assertIn("nobody sits in NONE", self.refused("signatures", "MON-AM", "NONE"))
+        self.assertIn("\ntd.sign { border", self.office("signatures", "MON-AM", "LIB"))
 
     def test_counts(self):
         rows = self.rows("counts", "TUE-AM")
@@ -181,6 +183,7 @@ class Papers(sample.SampleSchool):
 
     def test_hostile_names(self):
         self.make_hostile()
+        self.assertIn('"0001000","\'=1+1"', self.office("slips", "--csv"))
         for words in (["slips", "--codes", "--desks"], ["board", "MON-AM"], ["doors", "MON-AM"], ["counts", "MON-AM"],
                       ["session-page", "MON-AM"]):
             text = self.office(*words)
@@ -190,6 +193,12 @@ class Papers(sample.SampleSchool):
                 shown = "".join("".join(row) for row in page.rows)
                 for name in ("=1+1", "<script>alert(1)</script>", "C1 ?2J ? end", "left ?right", "line?end", "W" * 80):
                     self.assertIn(name, shown, words)
+
+    def test_the_last_page_of_a_hall_has_room_for_the_sums(self):
+        self.change(("UPDATE candidate SET name = ?", ["W" * 80]))
+        pages = self.office("doors", "MON-AM", "GYM").split("<div class=sheet>")[1:]
+        self.assertEqual(["Collected by" in page for page in pages], [False] * (len(pages) - 1) + [True])
+        self.assertGreater(len(pages), 1)
 
     def test_rows_that_no_office_has(self):
         whole = self.write("whole.db", b"")
@@ -317,6 +326,7 @@ class Papers(sample.SampleSchool):
         named = "Mathematics 1 (MA-1-2), second sitting of MA-1"
         self.assertIn("|MA-1-2 Mathematics 1, second sitting of MA-1: 1", self.rows("doors", "MON-AM-2")[0][0])
         self.assertEqual(self.rows("doors", "MON-AM-2")[2][3:5], ["MA-1-2 (MA-1)", "13:00"])
+        self.assertEqual(self.office("doors", "MON-AM-2").count("watched since"), 1)  # they sit other sessions, too
         self.assertEqual([row[:3] for row in self.rows("counts", "MON-AM-2")[2:]],
                          [["Room 14 (R14)", named, "1"], ["Monday, 7 June 2027, 11:00 (MON-AM-2)"],
                           ["Paper, all halls", "Copies", "Last finish"], [named, "1", "13:00"]])
@@ -324,6 +334,7 @@ class Papers(sample.SampleSchool):
         self.assertEqual(self.rows("chart", "MON-AM-2")[1][0], "1Henrik Haddad 0001561 MA-1-2 (MA-1)")
         self.assertIn(["1", "0001561", "Henrik Haddad", "MA-1-2 (MA-1)"],
                       [row[:4] for row in self.rows("session-page", "MON-AM-2")])
+        self.assertNotIn("is sat in", self.run_office("absent", TODAY="2027-06-07").stderr)  # it lists both sessions
         slip = self.rows("slips", "--only", "0001561")
         self.assertEqual([row[2] for row in slip[2:4]], ["Latin (LAT)", named])
         letter = csv.DictReader(self.office("slips", "--csv", "--only", "0001561").removeprefix("\ufeff").split("\n"))

@@ -1,5 +1,7 @@
 """Posters, cards and charts over the sample school, and over one with hostile names."""
 import contextlib
+import dataclasses
+import datetime
 import os
 import re
 import sqlite3
@@ -8,8 +10,9 @@ import unittest
 import sample
 import test_paper
 
-from exam_desk import notebook  # beside the tests' folder
-from exam_desk.sheets import papers
+from exam_desk import notebook, on_paper  # beside the tests' folder
+from exam_desk.reading import Reading
+from exam_desk.sheets import PAPERS, papers, slips
 
 PRIVATE = ["extra time", "reader", "step-free", "small-room", "VMGNZGEDP9"]  # arrangements, a code
 
@@ -42,6 +45,7 @@ class Rows(unittest.TestCase):
         for part in parts:
             self.assertLessEqual(sum(heights[part]) + 120 * (part is parts[-1]), 200)
         self.assertEqual([len(heights[part]) for part in parts], [13, 13, 14, 13, 6, 1])
+        self.assertEqual(papers.parted([300, 9], 200, 20), [slice(0, 1), slice(1, None)])  # none is empty
 
 
 class Posters(sample.SampleSchool):
@@ -173,6 +177,65 @@ class Posters(sample.SampleSchool):
         self.office("poster", "MON-AM")
         self.assertEqual(before, {name: os.stat(os.path.join(self.folder, name)).st_mtime_ns for name in before})
         self.assertFalse(os.path.exists(os.path.join(self.desk, "notebook")))
+
+
+class OutOfDate(sample.SampleSchool):
+    """After each change the papers that are said to be out of date are those that would be printed otherwise."""
+    CODE, NUMBER = "MON-AM", "0001000"  # who sits in AULA, as LAT is sat there
+
+    def printed(self, reading):
+        """All papers by name and hall, and what is noted of them."""
+        halls = [each.hall for each, _ in papers.lists.halls(reading, self.CODE)]
+        found = {(name, hall): papers.page(reading, name, self.CODE, [hall] * (hall != ""))
+                 for name, paper in PAPERS.items() if paper.about for hall in (halls if paper.by_hall else [""])}
+        found["slips", ""] = slips.page(reading, slips.Choice([self.CODE], desks=True))
+        return found, on_paper.lines_of(reading, self.CODE), on_paper.shared(reading, self.CODE)
+
+    def sits(self, reading, **values):
+        """Has the program say otherwise what one candidate sits, or all who sit something in the session."""
+        for number in [self.NUMBER] if values.keys().isdisjoint({"date", "start"}) else reading.sittings:
+            if self.CODE in reading.sittings[number]:
+                reading.sittings[number][self.CODE] = reading.sittings[number][self.CODE]._replace(**values)
+
+    def test_papers_that_show_it(self):
+        office = dataclasses.replace(self.value, now=lambda: datetime.datetime(2027, 5, 1))
+        for hall in ("AULA", "GYM", "LIB", "PC1", "R12"):
+            notebook.keep_rows(office, hall, notebook.Rows(6, "across"))
+        first, number = "UPDATE {} SET {} WHERE {}", int(self.NUMBER)
+        for what, query, values in (
+                ("hall", "", {"hall": "GYM", "desk": 25}), ("left", "", {"session": None}), ("desk", "", {"desk": 16}),
+                ("none", "", {"hall": None, "desk": None}), ("paper", "", {"paper": "MA-2"}),
+                ("finish", "", {"finish": "11:01"}), ("needs", "", {"needs": ("quiet",)}), ("extra", "", {"extra": 10}),
+                ("misses", "", {}), ("note", "", {}), ("name", first.format("candidate", "name = 'Bo'", f"number = {number}"), {}),
+                ("date", first.format("session", "day = '2027-06-09'", "code = 'MON-AM'"), {"date": "2027-06-09"}),
+                ("start", first.format("session", "start = 541", "code = 'MON-AM'"), {"start": "09:01"}),
+                ("paper title", first.format("paper", "title = 'Latin 1'", "code = 'LAT'"), {}),
+                ("hall title", first.format("hall", "title = 'Great hall'", "code = 'LIB'"), {}),
+                ("desks", first.format("opening", "desks = 17", "session = 'MON-AM' AND hall = 'AULA'"), {}),
+                ("open until", first.format("opening", "until = 799", "session = 'MON-AM' AND hall = 'AULA'"), {}),
+                ("rows", "", {}), ("school", "", {})):
+            with self.subTest(what), Reading(office) as reading:
+                pages, then, shared = self.printed(reading)
+                reading.mark, reading.rows.execute("PRAGMA query_only = OFF")
+                reading.rows.execute(query) if query else None
+                self.sits(reading, **values)
+                if what == "left":
+                    reading.sittings[self.NUMBER].pop(self.CODE)
+                elif what == "misses":
+                    reading.missed[self.NUMBER] = {self.CODE: ["LAT"]}
+                    reading.rows.execute("INSERT INTO entry VALUES (?, 'LAT', 1)", [number])
+                elif what == "note":
+                    notebook.take_notes(office, {self.NUMBER: "a scribe"})
+                elif what == "rows":
+                    notebook.keep_rows(office, "AULA", notebook.Rows(4, "down"))
+                elif what == "school":
+                    notebook.set_school_name(office, "Hill")
+                now, lines, common = self.printed(reading)
+                found = on_paper.out_of_date(office, on_paper.moves(then, lines), on_paper.others(shared, common), lines)
+                others = {key for key in {*pages, *now} if pages.get(key) != now.get(key)}
+                others -= {("slips", "")} if what == "left" else set()  # whose slip nobody has now
+                self.assertEqual(others, {(name, hall) for name, halls in found.items() for hall in halls or [""]})
+                self.assertTrue(others)
 
 
 if __name__ == "__main__":

@@ -1,5 +1,6 @@
 """A reading is of one moment, asks its own `serve` over its own copy, and leaves nothing behind; last days."""
 import contextlib
+import datetime
 import json
 import os
 import signal
@@ -150,16 +151,16 @@ class LastDays(sample.SampleSchool):
                 server.kill()
 
     def next_day(self, day):
-        return appeals.before(day, -1)
+        return (datetime.date.fromisoformat(day) + datetime.timedelta(days=1)).isoformat()
 
     def test_lodging(self):
         for kind in self.BODIES:
-            last = appeals.to_lodge(kind, self.SESSION_DAY)
+            last = appeals.last_day(self.SESSION_DAY, kind)
             self.assertEqual(self.lodged(kind, self.next_day(last)), (409, {"day": last, "error": 13}))
             self.assertEqual(self.lodged(kind, last), (200, {"state": "open"}))
 
     def test_deciding(self):
-        last = appeals.to_decide(self.SESSION_DAY)
+        last = appeals.last_day(self.SESSION_DAY)
         self.lodged("hall", "2027-05-01")
         words = ["decide", "0001051", "A01", "refused", "no"]
         self.assertIn("refused 17", self.refused(*words, TODAY=self.next_day(last)))
@@ -167,8 +168,8 @@ class LastDays(sample.SampleSchool):
 
     def test_the_page_of_candidates(self):
         text = (sample.TOP / "web/lodging.js").read_text("utf-8")
-        for kind, days in appeals.DAYS_TO_LODGE.items():
-            self.assertIn(f"{kind}: {{ days: {days},", text)
+        for kind in self.BODIES:
+            self.assertIn(f"{kind}: {{ days: {appeals.DAYS[kind]},", text)
 
 
 if __name__ == "__main__":

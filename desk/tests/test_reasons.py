@@ -65,6 +65,18 @@ class InShort(unittest.TestCase):
         self.assertEqual([line[2:6] for line in lines[1:]], HALLS)
         self.assertEqual(lines[1], "  H000     closes 10:00, reserved, barred by a granted appeal")
 
+    def test_who_differs_in_one_thing_has_a_reason_of_their_own(self):
+        """What is worked out of one hall for one holds for those alone who are alike in all that decides."""
+        reserved, first = Opening("H000", "Hall", 0, 1, 720, True), member(1, (), "12:00")
+        reasons = found([first], [reserved])
+        reasons.required = {"MA-2": ["quiet"]}
+        self.assertEqual(reasons.reason(first, reserved), "reserved")
+        for values, said in (({"extra": 25}, "suits, but 1 of 1 desks are taken: 9999999"), ({"needs": ("screen",)}, "no screen"),
+                             ({"finish": "12:01"}, "closes 12:00, reserved"), ({"paper": "MA-2"}, "no quiet, reserved")):
+            other = first._replace(number="0000002", sitting=first.sitting._replace(**values))
+            self.assertEqual(reasons.reason(other, reserved), said)
+        self.assertEqual(reasons.reason(first._replace(number="0000000"), reserved), "reserved, barred by a granted appeal")
+
     def test_few_go_hall_by_hall(self):
         members = [member(place, (), "09:30") for place in range(6)]
         openings = [opening(place) for place in range(9)]

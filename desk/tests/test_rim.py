@@ -2,6 +2,7 @@
 `keep` comes back. What needs root is passed over without."""
 import asyncio
 import contextlib
+import fcntl
 import json
 import os
 import shutil
@@ -118,6 +119,41 @@ class Hanging(sample.SampleSchool):
         return answer
 
 
+class Door(unittest.TestCase):
+    """What clients get of what `serve` answers, one after the other."""
+    whole, failed = hold.FULL, hold.FULL.replace(b"503", b"500")
+
+    async def given(self, door, *answers):
+        door.open(asking.Server(1, "1"))
+        with mock.patch("exam_desk.asking.answer", side_effect=answers):
+            return await door.answer(b"")
+
+    def test_an_answer_that_is_not_whole_is_asked_for_again(self):
+        for broken in OSError(), b"", self.whole[:-1]:
+            self.assertEqual(asyncio.run(self.given(hold.Hold(), broken, self.whole)), self.whole)
+
+    def test_serve_begins_anew_after_a_500_and_not_again_at_once(self):
+        door = hold.Hold()
+        for is_first in True, False:
+            self.assertEqual(asyncio.run(self.given(door, self.failed)), self.failed)
+            self.assertEqual((door.over.is_set(), door.opened.is_set()), (is_first, not is_first))
+            door.over.clear()
+        self.assertEqual(door.fault, "serve begins anew after an answer 500")
+
+    def test_no_answer_at_all(self):
+        with mock.patch.object(hold, "GAP_SECONDS", 0.1):
+            self.assertRegex(asyncio.run(self.given(hold.Hold(), *[OSError()] * 99)), b"^HTTP/1.1 504 Gateway Timeout\r\n")
+
+    def test_who_sends_nothing_has_less_time_in_a_crowd(self):
+        with mock.patch.object(hold, "CROWD_SECONDS", 0.1), mock.patch.object(hold, "CROWD", 1):
+            self.assertEqual(asyncio.run(asyncio.wait_for(self.silent(), hold.REQUEST_SECONDS / 2)), b"")
+
+    async def silent(self):
+        async with await asyncio.start_server(hold.Hold().take, "127.0.0.1", 0) as server:
+            reader, _ = await asyncio.open_connection(*server.sockets[0].getsockname())
+            return await reader.read()
+
+
 class Hidden(sample.SampleSchool):
     def test_a_serve_whose_port_is_not_seen_is_handed_nothing(self):
         with mock.patch("exam_desk.asking.listens", return_value=False), mock.patch("exam_desk.keeping.say") as say:
@@ -153,8 +189,10 @@ class Starting(sample.SampleSchool):
 
     def test_a_long_fault_is_cut_and_a_cut_text_is_none(self):
         with turns.lock_file(self.value, "keep.lock") as lock:
-            keeping.Keep(self.value, "8080", lock).show("\u6f22\"\n" * 1000)
-            self.assertEqual(json.loads(beside.text_of(self.path, "keep.lock"))["place"], "8080")
+            place = os.fsdecode(b"/run/caf\xe9/keep.socket")
+            keeping.Keep(self.value, place, lock).show("\u6f22\"\n" * 1000)
+            lock.seek(0)
+            self.assertEqual(turns.said_by(os.getpid(), lock.read())["place"], place)
         for said in (b'{"pid": 7, "place": "8080", "state": "serve ended: \xc3', b"[1, 2]", b"[" * 1000, b"\xff\x00", b"7"):
             self.assertEqual(turns.said_by(7, said), {"pid": 7})
         said = b'{"pid": 7, "port": 8080, "state": "serving"}'  # by `keep` of version 1.0.0, which an upgrade leaves
@@ -169,6 +207,15 @@ class Closed(sample.SampleSchool):
             line = ["sh", "-c", f'exec "$@" {closed}', "sh", sample.DESK / "office", *words]
             done = subprocess.run(line, env=self.environment, capture_output=True, encoding="utf-8", check=False)
             self.assertEqual((done.returncode, done.stderr), (status, said))
+
+    def test_a_signal_that_nohup_ignores_ends_nothing(self):
+        self.office("withdraw", "0001000", "MA-1")
+        line = ["sh", "-c", "trap '' HUP; exec \"$@\"", "sh", sample.DESK / "office", "back", "1"]
+        with subprocess.Popen(line, env=self.environment, stdin=subprocess.PIPE, stdout=subprocess.PIPE,
+                              stderr=subprocess.PIPE, text=True) as process:
+            self.assertTrue(process.stdout.read(1))  # it asks
+            process.send_signal(signal.SIGHUP)
+            self.assertEqual((process.communicate("n\n")[1], process.returncode), ("office: nothing is changed\n", 1))
 
     def test_what_has_no_room_beside_the_office_is_not_the_output(self):
         line = ["sh", "-c", 'ulimit -f 0; exec "$@"', "sh", sample.DESK / "office", "school", "Hill School"]
@@ -187,6 +234,17 @@ class Closed(sample.SampleSchool):
 
 
 class Strangers(sample.SampleSchool):
+    def test_what_a_command_makes_is_for_its_user_alone(self):
+        """Whatever it may leave open to others by the umask that it is begun with."""
+        os.mkdir(place := os.path.join(self.folder, "new"))
+        for words in ["init"], ["school", "Hill"], ["close-hall", "MON-AM", "GYM"], ["dump", f"{place}/rows"]:
+            subprocess.run([sample.DESK / "office", *words], env={**self.environment, "OFFICE": f"{place}/office.db"},
+                           umask=0, stdout=subprocess.DEVNULL, stderr=subprocess.DEVNULL, check=False)
+        found = [path for folder, folders, names in os.walk(place) for path in (
+            os.path.join(folder, name) for name in [*folders, *names])]
+        self.assertGreater(len(found), 9)
+        self.assertEqual([path for path in found if os.stat(path).st_mode & 0o077], [])
+
     def test_a_folder_in_which_others_may_write(self):
         os.mkdir(self.desk)
         for mode, words in ((0o777, ["withdraw", "0001000", "MA-1"]), (0o770, ["keep", "start", "8080"]), (0o702, ["check"]),
@@ -276,6 +334,29 @@ class Turns(sample.SampleSchool):
     def test_a_lock_that_is_not_there_is_free(self):
         self.assertEqual((turns.is_taken(self.value, "want.lock"), beside.text_of(self.path, "want.lock")), (False, ""))
 
+    def test_of_a_long_file_the_end_is_looked_at(self):
+        os.mkdir(self.desk, 0o700)
+        self.write("desk-office.db/log", "abcdefgh")
+        with mock.patch.object(beside, "LAST_BYTES", 4):
+            self.assertEqual(beside.text_of(self.path, "log"), "efgh")
+
+    def test_whoever_looks_takes_nothing_from_another_who_looks(self):
+        with turns.lock_file(self.value, "turn.lock") as one, turns.lock_file(self.value, "turn.lock") as other:
+            self.assertTrue(turns.try_lock(one, fcntl.LOCK_SH))
+            self.assertTrue(turns.is_free(other))
+
+    def test_a_command_keeps_nothing_while_candidates_go_first(self):
+        """`keep` takes the turn just behind the command's first look at it, and needs want.lock to serve."""
+        def look(_):
+            found.append(turns.try_lock(want))
+            fcntl.flock(want, fcntl.LOCK_UN)
+        found = []
+        with (turns.lock_file(self.value, "want.lock") as want, mock.patch("time.sleep", look),
+              mock.patch("exam_desk.turns.is_free", side_effect=[True, False, True, True]),
+              turns.alone(self.value, ["check", "it"])):
+            self.assertEqual(found, [True])
+            self.assertEqual(beside.text_of(self.path, "want.lock").strip(), f"process {os.getpid()}, check it")
+
     def test_a_command_lets_candidates_go_first(self):
         """No command begins while `keep` holds the lock for candidates who wait; it says behind whom it waits."""
         with mock.patch("exam_desk.turns.SILENCE", 0.1):
@@ -334,15 +415,24 @@ class Answering(sample.SampleSchool):
             keep = keeping.Keep(self.value, str(sample.free_port()), lock)
             served = asyncio.create_task(keep.run())
             answer = asyncio.create_task(keep.hold.answer(b"GET / HTTP/1.0\r\n\r\n"))
-            async with asyncio.timeout(sample.PATIENCE):
-                while turns.is_free(turn):
-                    await asyncio.sleep(0.02)
-                want.close()
-                self.assertTrue((await answer).endswith(b'{"error":37}'))
-                while not turns.is_free(turn):
-                    await asyncio.sleep(0.02)
-            keep.end()
-            await served
+            try:
+                async with asyncio.timeout(sample.PATIENCE):
+                    while turns.is_free(turn):
+                        await asyncio.sleep(0.02)
+                    want.close()
+                    self.assertTrue((await answer).endswith(b'{"error":37}'))
+                    while not turns.is_free(turn):
+                        await asyncio.sleep(0.02)
+            finally:
+                keep.end()
+                await served
+
+
+class Lodged(sample.KeptSchool):
+    def test_keep_lodges_nothing_with_another_day(self):
+        said = self.refused("lodge", "0001051", "MON-AM", "hall", "PC1", "", TODAY="2027-05-02")
+        self.assertEqual(said, "office: `keep` serves with the day 2027-05-01, and this is to be lodged on 2027-05-02: "
+                               "`office keep stop`, or leave TODAY out\n")
 
 
 class Days(sample.SampleSchool):

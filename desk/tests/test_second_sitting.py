@@ -146,11 +146,27 @@ class There(SecondSitting):
             self.assertEqual([second_sitting.own_code(reading.rows, f"MATHEMATIC-{place}") for place in (2, 3, 4)],
                              ["MATHEMATIC-2", "MATHEMATIC-3", "MATHEMATIC-3"])
 
+    def test_a_code_that_two_papers_may_have_given(self):
+        """Both have 12 letters, of which ten are the same."""
+        self.enter("sessions", "session,date,start\nT,2027-06-20,09:00\nT-2,2027-06-20,10:00\n")
+        self.enter("papers", "paper,title,session,minutes,requires\nABCDEFGHIJKL,Maths,T,60,-\n"
+                             "ABCDEFGHIJKM,Maths,T,60,-\nABCDEFGHIJ-2,Maths,T-2,60,-\n")
+        with Reading(self.value) as reading:
+            self.assertEqual(second_sitting.own_code(reading.rows, "ABCDEFGHIJ-2"), "ABCDEFGHIJ-2")
+
     def test_a_second_candidate_joins(self):
         self.second(*ONE)
         said = self.second("0000002", *ONE[1:])
         self.assertIn("session MON-AM-2 at 10:30, paper MA-1-2, hall R14 with 2 desks\n", said)
         self.assertEqual(self.seats("MON-AM-2"), {"0000002": ("MA-1-2", "R14", "1"), "0000003": ("MA-1-2", "R14", "2")})
+
+    def test_a_hall_that_is_open_stays_as_it_is_but_for_its_desks(self):
+        """It closes when it did, and is reserved for who has extra time, as both have."""
+        self.enter("arrangements", "number,needs,extra\n0000002,-,25\n0000003,-,25\n")
+        self.second("0000003", "MA-1", "11:00", "R14")
+        self.office("open-hall", "MON-AM-2", "R14", "1", "14:00", "--reserved")
+        self.second("0000002", "MA-1", "11:00", "R14")
+        self.assertEqual(self.rows("SELECT desks, until, reserved FROM opening WHERE session = 'MON-AM-2'"), [(2, 840, 1)])
 
     def test_another_paper_joins_the_session_and_another_hall_does_not(self):
         self.second("0000003", "MA-1", "11:00", "R14")
@@ -291,6 +307,14 @@ class Refused(SecondSitting):
             "limits\noffice: nothing is changed\n"))
         self.assertEqual((self.state(), len(self.kept())), (self.before, self.copies_before))
 
+    def test_a_result_that_is_not_that_of_the_trial(self):
+        """Over the office the program does more."""
+        more = f'{sample.built_program()} --db "$2" --today "$4" withdraw 0001000 MA-1 >/dev/null'
+        program = self.program(f'[ "$2 $5 $6" = "{self.path} import sessions" ] && {more}')
+        done = self.run_office("second-sitting", *ONE, "--yes", EXAMOFFICE=program)
+        self.assertEqual((done.returncode, done.stderr),
+                         (0, "office: the office is not as the trial said: look with `office changes 1`\n"))
+
     def test_a_step_that_is_refused_takes_all_back(self):
         """The rehearsal goes well, and then the program refuses the last step over the office."""
         program = self.program(f'[ "$2 $5" = "{self.path} withdraw" ] && echo refused 22 >&2 && exit 1')
@@ -321,6 +345,14 @@ class Back(SecondSitting):
         self.refuses("the office has no paper ", "0000003", "", "--undo")
         self.office("withdraw", "0000003", "MA-1-2")
         self.refuses("0000003 has no second sitting of MA-1", "0000003", "MA-1", "--undo")
+
+
+    def test_who_has_several(self):
+        self.second(*ONE)
+        self.second("0000002", "MA-1", "11:00", "R12")
+        self.enter("entries", "number,paper\n0000003,MA-1-3\n")
+        self.refuses("0000003 has second sittings of MA-1 as MA-1-2, MA-1-3: withdraw one, and reinstate MA-1; nothing is "
+                     "changed", "0000003", "MA-1", "--undo")
 
 
 class LeftBehind(SecondSitting):

@@ -146,9 +146,9 @@ class SampleSchool(unittest.TestCase):
 
 
 class Titles(SampleSchool):
-    def titles(self, *words):
+    def titles(self, *words, cwd=None):
         return subprocess.run([OFFICE, "titles", *words], env=self.environment, capture_output=True, text=True,
-                              check=False, timeout=60)
+                              check=False, cwd=cwd, timeout=60)
 
     def kept(self):
         folder = pathlib.Path(self.folder.name)
@@ -188,7 +188,7 @@ class Titles(SampleSchool):
         pathlib.Path(halls).write_text("hall,title,features\nGYM,Annex,step-free\n", "utf-8")
         change("import", "halls", halls)
         self.assertFalse(os.path.exists(path))
-        self.titles(path)
+        self.titles("titles.json", cwd=self.folder.name)
         self.assertEqual(hall(), "Annex")
         change("back", "1", "--yes")
         self.assertEqual(hall(), "Gymnasium")

@@ -25,12 +25,13 @@ import corpus  # noqa: E402
 import harder  # noqa: E402
 import odd  # noqa: E402
 import rawbook  # noqa: E402
+from exam_desk import files  # noqa: E402
 from exam_desk.mistakes import Known  # noqa: E402
 from exam_desk.office import Trouble  # noqa: E402
 from exam_desk.workbook import cells, child, opening  # noqa: E402
 from exam_desk.workbook.cells import Sheet, packed, unpacked  # noqa: E402
 from exam_desk.workbook.headers import read_columns  # noqa: E402
-from exam_desk.workbook.reading import (mend_folder, put_workbook, read_book, workbook_of, write_folder,
+from exam_desk.workbook.reading import (mend_folder, new_folder, put_workbook, read_book, workbook_of, write_folder,
                                         write_kind)  # noqa: E402
 from exam_desk.workbook.tables import Job, together  # noqa: E402
 
@@ -178,15 +179,18 @@ class Limits(unittest.TestCase):
             opening.open_book(str(HERE))
 
     def test_no_text_takes_long(self) -> None:
-        """Marks on letters, which are put in order; digits and brackets that have no end."""
+        """Marks on letters, which are put in order; digits and brackets that have no end; spaces between features."""
         began, many = time.process_time(), 100_000
         for number, name, said in ((1, many * "\u0301" + many * "\u0327", "has 200,000 letters; at most 1000 are looked at"),
                                    (("n", many * "1" + "x"), "Ada", "is no number"),
-                                   (("n", "17", many * "["), "Ada", "a value whose number format shows nothing")):
+                                   (("n", "17", many * "["), "Ada", "a number format has 100,000 letters")):
             data = child.read(rawbook.xlsx(cases.candidates([number, name, "CODE0001"])))
             with contextlib.suppress(Trouble):
                 data = "".join(line.whole() for line in read_book(unpacked(data), Job(Known())).lines).encode()
             self.assertIn(said, data.decode())
+        needs = [[f"{place:07}", f"a{950 * ' '}{place}", 0] for place in range(1, 301)]
+        job = read_book(unpacked(child.read(rawbook.xlsx(cases.sheet("Arrangements", cases.ARRANGEMENTS, *needs)))), Job(Known()))
+        self.assertEqual(300, job.count("mistake"))
         self.assertLess(time.process_time() - began, 10)
 
     def test_merged_cells_have_a_limit(self) -> None:
@@ -252,6 +256,12 @@ class Told(unittest.TestCase):
                           *(f"Sessions!B{row}" for row in range(3, 7)), "Candidates!A2:A5", "Candidates!A6:A9"],
                          [told[0], *(line.partition(":")[0] for line in told[1:5]), *(line.rpartition(": ")[0] for line in told[5:7])])
 
+    def test_nothing_is_said_of_what_is_not_read_or_above_the_first_row(self) -> None:
+        rows = [*cases.CANDIDATES, "Age"], [None, "Ada", "CODE0001", ("f", "1+1", 2)]
+        lines = read_book(unpacked(child.read(rawbook.xlsx(cases.sheet("Candidates", *rows)))), Job(Known())).lines
+        self.assertEqual(["Candidates!D1: NOTE: the column 'Age' is not read", "Candidates!A2: MISTAKE: number is missing"],
+                         [line.whole() for line in lines])
+
     def test_what_differs_stands_apart(self) -> None:
         other = Sheet("Form 2")
         for sheet, column, text in [(self.sheet, 1, "is missing"), (other, 1, "is missing"), (other, 2, "is missing"),
@@ -268,20 +278,22 @@ class Mending(unittest.TestCase):
     def test_the_choices_of_others_stay(self) -> None:
         """All files of a kind are one list, and no workbook after them is read so for that."""
         with tempfile.TemporaryDirectory() as folder:
-            for name in ("entries.csv", "entries-2.csv"):
-                pathlib.Path(folder, name).write_text("number,paper\n0000001,MA-1\n", "utf-8")
+            for place, name in enumerate(("entries.csv", "entries-2.csv", "entries-10.csv"), 1):
+                pathlib.Path(folder, name).write_text(f"number,paper\n000000{place},MA-1\n", "utf-8")
             job = mend_folder(folder, Job(Known()), None, lambda text: None)
-        self.assertEqual((2, 0), (len(job.records["entries"]), job.count("mistake")))
+        self.assertEqual((["0000001", "0000002", "0000003"], 0),
+                         ([record.fields[0] for record in job.records["entries"]], job.count("mistake")))
         self.assertEqual([], Job(Known()).together)
 
     def test_a_second_file_is_of_its_kind_whatever_it_has(self) -> None:
         with tempfile.TemporaryDirectory() as folder:
             for name, text in (("halls.csv", ""), ("entries.csv", "number,paper\n0000001,MA-1\n"),
-                               ("entries-2.csv", "Nummer,Kurs\n2,MA-1\n")):
+                               ("entries-2.csv", "Nummer,Kurs\n2,MA-1\n"), ("Pupils.XLSX", "")):
                 pathlib.Path(folder, name).write_text(text, "utf-8")
             lines = [line.whole() for line in mend_folder(folder, Job(Known()), None, lambda text: None).lines]
-        self.assertEqual("halls: NOTE: is empty, so it is not read", lines[0])
-        self.assertRegex(lines[1], "^'entries-2'!1: MISTAKE: no row is a header with number and paper")
+        self.assertEqual(["NOTE: Pupils.XLSX is none of the seven files; it is not read",
+                          "halls: NOTE: is empty, so it is not read"], lines[:2])
+        self.assertRegex(lines[2], "^'entries-2'!1: MISTAKE: no row is a header with number and paper")
 
     def test_the_code_of_the_office_stands_where_none_is(self) -> None:
         known = Known()
@@ -311,13 +323,33 @@ class Writing(unittest.TestCase):
             self.assertEqual([], os.listdir(target))
             with self.assertRaisesRegex(Trouble, "must end in .xlsx"):
                 put_workbook(os.path.join(folder, "new.ods"))
+            job = Job(Known())
+            job.note("a\x1b\u202eb\nc")
+            write_folder(os.path.join(folder, "harmless"), job, "read.txt")
+            self.assertEqual("NOTE: a??b?c\n", pathlib.Path(folder, "harmless", "read.txt").read_text("utf-8"))
+            shutil.rmtree(os.path.join(folder, "harmless"))
+            with self.assertRaises(ZeroDivisionError), new_folder(os.path.join(folder, "other")):
+                1 / 0
+            self.assertEqual(["new"], os.listdir(folder))
             with self.assertRaisesRegex(Trouble, "the folder .*/none is not there"):
                 write_folder(os.path.join(folder, "none", "new"), Job(Known()), "read.txt")
 
 
+    def test_a_file_is_for_its_owner_alone_and_whole_or_not_there(self) -> None:
+        with tempfile.TemporaryDirectory() as folder:
+            before, path = os.umask(0o022), os.path.join(folder, "new")
+            try:
+                files.put(path, b"x")
+            finally:
+                os.umask(before)
+            self.assertEqual(0o600, os.stat(path).st_mode & 0o777)
+            with self.assertRaises(TypeError):
+                files.put(f"{path}er", "no bytes")  # type: ignore[arg-type]
+            self.assertEqual(["new"], os.listdir(folder))
+
     def test_a_second_file_of_a_kind_is_named(self):
         rows = [[f"{place:07}", "MA-1"] for place in range(5)]
-        with tempfile.TemporaryDirectory() as folder, mock.patch("exam_desk.files.MOST_BYTES", 60):
+        with tempfile.TemporaryDirectory() as folder, mock.patch("exam_desk.files.MOST_BYTES", 54):  # two rows
             self.assertEqual("entries: 5, in entries.csv and entries-2.csv and entries-3.csv", write_kind(folder, "entries", rows))
             self.assertEqual("halls: 1", write_kind(folder, "halls", [["A", "B", "-"]]))
             self.assertEqual(4, len(os.listdir(folder)))
@@ -414,8 +446,10 @@ class Commands(sample.SampleSchool):
     def test_check_files_says_what_reads_a_workbook(self) -> None:
         self.office("dump", "facts")
         pathlib.Path(self.folder, "facts", "school.xlsx").write_bytes(b"PK")
+        pathlib.Path(self.folder, "facts", "PUPILS.CSV").write_bytes(b"number")
         said = self.office("check-files", "facts")
         self.assertIn("NOTE: school.xlsx is a workbook: `office read` makes the files of it", said)
+        self.assertIn("NOTE: PUPILS.CSV is none of the seven names, so it is not looked at", said)
 
     @needs_openpyxl
     def test_a_workbook_of_many_changes_takes_few_lines(self) -> None:

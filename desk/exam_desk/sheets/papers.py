@@ -3,7 +3,7 @@ invigilators' sheets. Besides, who must be told of changes."""
 import functools
 import unicodedata
 from collections import Counter, defaultdict
-from collections.abc import Callable, Collection, Iterable, Iterator, Mapping, Sequence
+from collections.abc import Collection, Iterable, Iterator, Mapping, Sequence
 
 from markupsafe import Markup
 
@@ -11,6 +11,7 @@ from exam_desk import facts, lists, notebook, on_paper, overlaps, second_sitting
 from exam_desk.notebook import Rows
 from exam_desk.office import Trouble
 from exam_desk.reading import Member, Reading, Sitting
+from exam_desk.sheets import PAPERS
 from exam_desk.sheets.pages import (CODE, HEADED, document, hall_names, html, joined, paper_names, safe, table, text,
                                     with_school)
 from exam_desk.telling import Change
@@ -89,11 +90,11 @@ class Session:
 def page(reading: Reading, name: str, session: str, asked: Collection[str] = ()) -> str:
     """A paper of a session, by its name in PAPERS; of all halls, or of some. Raises `Trouble` as `Session`."""
     of = Session(reading, session, asked)
-    title, style, sheets = PAPERS[name]
-    found = joined(html("<div class=sheet>{}</div>\n", sheet) for sheet in sheets(of))
+    found = joined(html("<div class=sheet>{}</div>\n", sheet) for sheet in globals()[name](of))
     why = html("{}, none has a desk: <code>office why {}</code> says why", lists.count(len(of.members), "candidate"),
                session) if of.members else "nobody is entered"
-    return document(reading, f"{title} {session}", found or html("<h2>{}</h2>\n<p>{}</p>\n", of.heading, why), style)
+    return document(reading, f"{PAPERS[name].title} {session}",
+                    found or html("<h2>{}</h2>\n<p>{}</p>\n", of.heading, why), PAPERS[name].style or name)
 
 
 def board(of: Session) -> Iterator[Markup]:
@@ -222,13 +223,6 @@ def row_of(of: Session, member: Member, paper: Markup, is_noted: bool, arranged:
                             1 + until.count("<br>"))
     return [of.desk(member), member.number, text(member.name), paper, until,
             joined(map(text, arranged), "<br>"), ""], max(ROW, height)
-
-
-PAPERS: dict[str, tuple[str, str, Callable[[Session], Iterable[Markup]]]] = {  # title, style, sheets
-    "board": ("Notice board", "board", board), "cards": ("Desk cards", "cards", cards),
-    "chart": ("Seating charts", "chart", chart), "counts": ("Copies", "counts", counts),
-    "doors": ("Invigilators' sheets", "doors", doors), "poster": ("Posters", "poster", poster),
-    "signatures": ("Lists to sign", "doors", signatures)}
 
 
 def width(words: str) -> float:

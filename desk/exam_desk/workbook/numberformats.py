@@ -8,6 +8,7 @@ from exam_desk.workbook.cells import Cell, whole_day
 
 LAST_SERIAL = 2_950_000  # a day in the year 9976
 MOST_NUMBER = 10 ** 15  # a spreadsheet keeps fifteen digits
+MOST_FORM = 1000  # letters of a number format; a spreadsheet takes 255
 LONG_NUMBER = 10 ** 11  # from here on the format General shows a power of ten
 WINDOWS, MACINTOSH = datetime.datetime(1899, 12, 30), datetime.datetime(1904, 1, 1)  # the day 0
 GENERAL = "General"
@@ -18,8 +19,8 @@ BUILT_IN = {  # formats by number; each machine has dates and a currency of its 
     **dict.fromkeys((*range(14, 23), *range(27, 37), 45, 47, *range(50, 59)), "m/d/yy h:mm")}
 AS_THE_FILES = {"yyyy-mm-dd": "%Y-%m-%d", "hh:mm": "%H:%M"}  # formats of moments that show what the files have
 NUMBER = re.compile(r"\s*[+-]?([0-9]+(\.[0-9]*)?|\.[0-9]+)([eE][+-]?[0-9]+)?\s*")
-TOKEN = re.compile(r'"[^"]*"|\\.|_.|\*.|\[[^][]*\]|General|AM/PM|([ymdhs])\1*|[0#?]+(?:[0#?,.]*[0#?])?,*|.', re.I)
-OF_ITS_OWN = re.compile(r"\[([<>=]|dbnum|\$[^][-]*-[0-9a-f]{5,})", re.I)  # conditions, digits of other scripts
+TOKEN = re.compile(r'"[^"]*"|\\.|_.|\*.|\[[^\]]*\]|General|AM/PM|([ymdhs])\1*|[0#?]+(?:[0#?,.]*[0#?])?,*|.', re.I)
+OF_ITS_OWN = re.compile(r"\[([<>=]|dbnum|\$[^\]-]*-[0-9a-f]{5,})", re.I)  # conditions, digits of other scripts
 DIGITS = re.compile(r"(?P<group>#,)?#*(?P<zeros>0*)(?:\.(?P<places>0+))?")
 
 
@@ -70,7 +71,10 @@ def clock_text(seconds: int) -> str:
 
 @functools.cache
 def sections(form: str) -> list[list[str]]:
-    """The pieces of the sections of a number format: for numbers above 0, below 0, for 0, and for texts."""
+    """The pieces of the sections of a number format: for numbers above 0, below 0, for 0, and for texts. Raises
+    ValueError where it is longer than any."""
+    if len(form) > MOST_FORM:
+        raise ValueError(f"a number format has {len(form):,} letters")
     parts = "".join("\0" if match[0] == ";" else match[0] for match in TOKEN.finditer(form)).split("\0")
     return [[match[0] for match in TOKEN.finditer(part)] for part in parts]
 

@@ -227,7 +227,7 @@ def read_features(column: str, cell: Cell, text: str, way: Way) -> Value:
         return Value("-", "empty is none" if not word else "none" if text != "-" else "")
     taught = way.words.get(column, {})
     found: set[str] = set()
-    for part in filter(None, re.split(r"\s*(?:[+,;/&|\n\r]|\band\b|\bund\b)\s*", word)):
+    for part in filter(None, map(str.strip, re.split(r"[+,;/&|\n\r]|\band\b|\bund\b", word))):
         short = re.sub("[ _-]", "", part)
         meant = taught.get(part) or SHORT_FEATURES.get(short)
         if meant is None:
@@ -302,7 +302,7 @@ def read_time(column: str, cell: Cell, text: str, way: Way) -> Value:
         raise Wrong("midnight? Write 24:00 as text if the hall is open until then")
     if "day" in said:
         return Value(time, "the time of the cell", day=said["day"])
-    is_never = column == "until" and time == "00:00" and ":" in text
+    is_never = column == "until" and time == "00:00"
     return Value(time, "", "a hall that is open until 00:00 suits nobody; midnight is 24:00" * is_never)
 
 

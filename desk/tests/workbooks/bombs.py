@@ -2,7 +2,7 @@
 from typing import Any
 
 import harder
-from cases import ADA, candidates
+from cases import ADA, ARRANGEMENTS, candidates, sheet
 from rawbook import ods, ods_row, xlsx
 
 SHEET = "xl/worksheets/sheet1.xml"
@@ -17,7 +17,12 @@ def bombs() -> list[dict[str, Any]]:
     def part(text: bytes | str) -> bytes:
         return xlsx(candidates(ADA), parts={SHEET: text})
     cells = '<table:table-cell table:number-columns-repeated="1000" office:value-type="string"><text:p>x</text:p></table:table-cell>'
+    spaces = [[f"{place:07}", f"a{950 * ' '}{place}", 0] for place in range(1, 2001)]
     return [
+        bomb("marks", xlsx(candidates(["0000001", 1_000_000 * "\u0301" + 1_000_000 * "\u0327", "CODE0001"])), "at most 1000 are looked at"),
+        bomb("digits", xlsx(candidates([("n", 3_000_000 * "1" + "x"), "Ada", "CODE0001"])), "is no number"),
+        bomb("brackets", xlsx(candidates([("n", "17", 3_000_000 * "["), "Ada", "CODE0001"])), "a number format has"),
+        bomb("spaces", xlsx(sheet("Arrangements", ARRANGEMENTS, *spaces)), "none of the features"),
         bomb("zip", part(b"<worksheet>" + 540_000_000 * b" "), "512 MB"),
         bomb("text", part(b'<worksheet a="' + 100_000_000 * b" "), "no end"),
         bomb("elements", part(b"<worksheet>" + 30_000_000 * b"<a/>"), "elements"),

@@ -233,6 +233,24 @@ case("rooms-without-features", xlsx(candidates(ADA), sheet("Rooms of 2026", HALL
 case("entries-with-two-names", xlsx(TWO_PAPERS, sheet("Entries", ["number", "Vorname", "Nachname", "paper"], ["0000001", "Ada", "Lin", "MA-1"])),
      files={"papers": ["MA-1,Maths,S1,90,-", "FR,French,S1,60,-"], "entries": ["0000001,MA-1"]},
      told=[[f"Entries!{letter}1", "is not read"] for letter in "BC"])
+case("number-below-the-format-text", xlsx(candidates([("n", "17", "@"), "Ada", "CODE0017"])), files={"candidates": ["0000017,Ada,CODE0017"]},
+     told=[["Candidates!A2", "number 17 became 0000017"]])
+case("zero-below-two-formats", xlsx(sheet("Arrangements", ARRANGEMENTS, ["0000001", "quiet", ("n", "0", '0;"minus "0')])),
+     files={"arrangements": ["0000001,quiet,0"]})
+case("two-values-of-all-rows-that-nobody-knows", xlsx(sheet("Sessions", SESSIONS, ["S1", "2027-06-01", "09:00"]), sheet("Halls", HALLS, ["A", "Hall A", "-"]),
+     sheet("Openings", OPENINGS[2:], ["10", "12:00", "no"])), 1, only=True, args=["--columns", "{here}/columns.toml"],
+     beside={"columns.toml": '[openings]\nsession = { always = "S9" }\nhall = { always = "B" }\n'},
+     mistakes=[["Openings!2", "session 'S9'"], ["Openings!2", "hall 'B'"]])
+case("groups-in-a-hidden-group", ods('<table:table table:name="Candidates">' + ods_row(*CANDIDATES) + '<table:table-row-group table:display="false">'
+     "<table:table-row-group>" + ods_row(*ADA) + "</table:table-row-group></table:table-row-group></table:table>"), 1, suffix="ods", only=True,
+     mistakes=[["Candidates!2", "is hidden"]])
+case("rows-repeated", ods('<table:table table:name="Candidates">' + ods_row(*CANDIDATES) + ods_row(*ADA, number_rows_repeated="2")
+     + ods_row(number_rows_repeated="3") + ods_row("x", *BO[1:]) + "</table:table>"), 1, suffix="ods", only=True,
+     told=[["Candidates!3", "the same as Candidates!2"]], mistakes=[["Candidates!A7", "number 'x'"]])
+case("dates-of-the-command-and-of-a-file", xlsx(sheet("Sessions", SESSIONS, ["S1", "01/06/2027", "09:00"])), files={"sessions": ["S1,2027-06-01,09:00"]},
+     args=["--dates", "day-first", "--columns", "{here}/columns.toml"], beside={"columns.toml": 'dates = "month-first"\n'})
+case("first-name-alone", xlsx(sheet("Candidates", ["number", "Vorname", "Nachname", "code"], ["0000001", "Ada", None, "CODE0001"])),
+     files={"candidates": ["0000001,Ada,CODE0001"]})
 case("header-repeated-in-part", xlsx(candidates(ADA, ["number", None, None])), 1, mistakes=[["Candidates!A3", "number 'number'"]])
 case("day-12-beside-a-text", xlsx(sheet("Sessions", SESSIONS, ["S1", ("n", "46550", DATE), "09:00"], ["S2", "13/06/2027", "09:00"])),
      1, mistakes=[["Sessions!B2", "2027-06-12", "a mixture"]])
