@@ -2,6 +2,7 @@
 import datetime
 import os
 import re
+import sqlite3
 import unittest
 from unittest import mock
 
@@ -99,6 +100,17 @@ class Kinds(unittest.TestCase):
     @property
     def office(self):
         return Office("nowhere.db", "examoffice", datetime.date.today, "tester")
+
+    def test_a_row_for_a_spreadsheet(self):
+        """No name and no title is a formula; a title that is another is that of now."""
+        row = telling.csv_row(change(name="=1", old_name="@2"), ({"MA-1": "+3"}, {"A": "-4"}))
+        self.assertEqual([row[3], *row[-4:-1]], ["'=1", "'+3", "'-4", "'@2"])
+        moments = [sqlite3.connect(":memory:") for _ in range(2)]
+        for title, file in zip(("Old", "New"), moments):
+            self.addCleanup(file.close)
+            for table in "paper", "hall":
+                file.execute(f"CREATE TABLE {table} AS SELECT 'X' AS code, '{title}' AS title")
+        self.assertEqual(telling.titles_of(*(mock.Mock(rows=file) for file in moments)), ({"X": "New"},) * 2)
 
     def test_what_hides_in_a_name_is_shown(self):
         self.assertEqual(brief([change(new=None, name="\u202eA\u009b2J\nda")])[0],
