@@ -167,9 +167,9 @@ class File:
     """A file of rows while it is looked through."""
 
     def __init__(self, kind: str, known: Known, most: int = MOST_COUNTED,
-                 place: Callable[[int], str] = "line {}".format) -> None:
+                 place: Callable[[int], str] | None = None) -> None:
         self.kind, self.known, self.header = kind, known, files.HEADERS[kind]
-        self.place = place  # how the row of a line is called
+        self.place = place or (lambda line: f"line {line}")  # how the row of a line is called
         self.wrong, self.notes = Found(most), Found(most)
         self.columns = [(name, RIGHT[name], files.REFERENCES[kind].get(name)) for name in self.header]
         self.first: dict[tuple[bytes, ...], files.Record] = {}  # the first record of each key
