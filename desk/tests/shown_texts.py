@@ -66,7 +66,7 @@ FORMED = [*mistakes.CURES.values(), mistakes.EMPTY_ROW, files.NO_UTF_8, *(
           *filter(re.compile("is no candidate number").search, sentences(typed)),
           "NOTE: who only did not come stays entered: `office absent {0} {1}` notes it",
           *(f"{{0}} {word}" for word in ("number", "numbers", "candidate", "candidates", "desk", "desks", "(new)")),
-          "{0} and {1} more"]
+          "{0} and {1} more", "line {0}"]  # the place of a row in a file, which a mistake names
 REASONS = [*(f"no {name}" for name in words.FEATURES), reasons.CLOSES + "{0}", "barred by a granted appeal", "suits",
            "but {0} of {1} desks are taken"]  # why a hall does not suit, parted at commas
 OWN = [*REASONS, proposals.OTHER_OFFICE, proposals.WRONG_DESK, proposals.COMPARING, proposals.LODGING]
