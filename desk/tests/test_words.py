@@ -32,7 +32,7 @@ class Words(sample.SampleSchool):
         self.assertIn("before name 0001051", self.office("back"))
         with open(os.path.join(self.desk, "log"), encoding="utf-8") as log:
             text = log.read()
-        self.assertIn("name of 0001051", text)
+        self.assertIn("\tname 0001051\t", text)
         self.assertNotIn(code, text)
         self.office("back", "1", "--yes")
         self.assertEqual(self.row(), (name, code))
