@@ -34,16 +34,13 @@ from exam_web.proposals import PLANS, Plan
 from exam_web.wording import many, said, shown, text
 
 pages = Blueprint("files", __name__)
-MOST_MEMBERS = 64  # of a zip
-MOST_NAME = 80  # letters that are shown
+MOST_MEMBERS, MOST_NAME = 64, 80  # of a zip; letters that are shown
 NO_TABLE = (".pdf", ".doc", ".docx", ".odt", ".rtf", ".pages", ".numbers", ".jpg", ".jpeg", ".png", ".gif", ".webp",
             ".heic")
 HIDDEN = (".", "~$")  # how names begin of what macOS adds, and of what Excel keeps beside a workbook that is open
-MOST_UPLOADS = 4  # of a visit
 MOST_SHOWN, MOST_NAMED = 40, 3  # mistakes of a file on the page; rows beside a field
-MOST_CURED = 20_000  # of a file that one press of a button can mend
-MOST_VALUE = 400  # letters of a value that is typed
-MOST_LINES = 300  # on workbooks, on the page
+MOST_UPLOADS, MOST_VALUE = 4, 400  # of a visit; letters of a value that is typed
+MOST_CURED, MOST_LINES = 20_000, 300  # mistakes of a file that one press mends; lines on workbooks, on the page
 MOST_LISTED = 300  # rows that are withdrawn or reinstated one by one, while nobody else has the office
 WORKBOOK = "application/vnd.openxmlformats-officedocument.spreadsheetml.sheet"
 DATES, HIDDEN_ROWS, LISTED = ["", "day-first", "month-first"], ["", "take", "leave"], ["withdraw", "reinstate"]
@@ -120,7 +117,7 @@ def members(upload: Upload, name: str, archive: zipfile.ZipFile) -> Iterator[tup
     found = [each for each in archive.infolist() if bare(each.filename) and not each.is_dir()]
     if not 0 < len(found) <= MOST_MEMBERS:
         upload.note(name, text("it holds {count} files; give the seven alone", count=len(found)))
-        return
+        found = []
     for each in found:
         with archive.open(each) as file:
             yield bare(each.filename), file.read(files.MOST_BYTES + 1), files.MOST_BYTES
@@ -355,8 +352,7 @@ def import_files(form: Form) -> Plan:
     upload: Upload = g.visit.uploads.get(key) or abort(404)
     page: Page = ("files.look", {"key": key})
     what, done = choice("choice", ["", "enter", *LISTED]), partial(setattr, upload, "is_imported", True)
-    if not upload.kinds:
-        abort(404)
+    upload.kinds or abort(404)
     if what in LISTED:
         return withdraw_list(upload, what, page, done)
     if not what and asks(upload, looked_through(upload)):
