@@ -34,7 +34,7 @@ class WhatIf(test_changing.Changing):
         text = self.office("what-if", "back", "1")
         self.assertRegex(text, r"\Athe office would be as it was on \S+ \S+, before close-hall MON-AM GYM\n"
                                r"taken away: appeal 0001051 D1 for MON-AM: open -> gone\n"
-                               r"[0-9]+ get desks\n")
+                               r"1 hall that was closed is open again\n  MON-AM GYM .*\n[0-9]+ get desks\n")
         self.assertRegex(text, r"(?m)^2 without a desk: 2 in MON-AM \(before 26\)$")
         self.assertNotIn("a draught", text)
         self.assertEqual((self.state(), len(self.kept()), self.log()), (now, 1, log))
