@@ -52,7 +52,7 @@ def ends(run: Run) -> None:
     run("pkill", "-9", "-f", "^/usr/share/examoffice/desk/examoffice .* serve ")
     serves(run)
     as_user(run, "office", "keep", "stop")
-    trial.same(run("sh", "-c", "systemctl is-active examoffice || true"), "inactive\n", "a service that `office` stopped")
+    until(lambda: run("sh", "-c", "systemctl is-active examoffice || true") == "inactive\n", "`office` stops a service")
     run("systemctl", "start", "examoffice")
     serves(run)
     trial.same(as_user(run, "office", "check"), "good\n", "check beside the services")
