@@ -86,7 +86,8 @@ def booted(root: pathlib.Path) -> Iterator[Run]:
     """A Debian below a folder, which systemd boots; it is shut down behind."""
     line = ["systemd-nspawn", "-q", "-D", root, "-M", "examoffice-trial", "--register=no", "--keep-unit",
             "--private-network", "--console=pipe", "--boot"]
-    with subprocess.Popen(line, stdin=subprocess.DEVNULL, stdout=subprocess.DEVNULL, stderr=subprocess.DEVNULL) as process:
+    nothing = subprocess.DEVNULL
+    with subprocess.Popen(line, stdin=nothing, stdout=nothing, stderr=nothing) as process:
         def run(*words: str) -> str:
             """By the namespaces of the container's first process."""
             first = pathlib.Path(f"/proc/{process.pid}/task/{process.pid}/children").read_text("ascii").split()[0]

@@ -139,8 +139,7 @@ def what_if(parser: command.Parser) -> int:
     values, asks_help = programs.as_typed([name, *words[1:]])
     if name in programs.CHANGES and asks_help:
         return programs.run(command.office(), words)
-    plan = (own[name].run(command.parser_of(name, words[1:])) if name in own else
-            programs.of_program(values))
+    plan = own[name].run(command.parser_of(name, words[1:])) if name in own else programs.of_program(values)
     if not isinstance(plan, programs.Change):
         why = f"`office {name}` changes no seat; " if name else ""
         raise Trouble(f"{why}name a command that does: {', '.join(sorted([*own, *programs.CHANGES]))}")

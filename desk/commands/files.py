@@ -55,7 +55,8 @@ def read_source(office: Office, given: Namespace) -> Job:
     return job
 
 
-@command.named("""Makes import files from a workbook, or from files that a spreadsheet broke: read WORKBOOK [NEW], mend FOLDER [NEW]
+@command.named("""\
+Makes import files of a workbook, or of files that a spreadsheet broke: read WORKBOOK [NEW], mend FOLDER [NEW]
 
     office read school.xlsx     makes the folder school, with sessions.csv, papers.csv and so on
     office read students.csv new --columns columns.toml

@@ -66,7 +66,8 @@ def keep(parser: command.Parser) -> bool:
     from exam_desk import beside, copies, keeping, turns
     parser.add_argument("what", choices=["start", "run", "stop", "status"])
     parser.add_argument("place", nargs="?", default=PORT, help="a port, or a folder for the socket")
-    parser.add_argument("--days", type=int, default=copies.MOST_DAYS, help="how many copies of days are kept, else 30")
+    parser.add_argument("--days", type=int, default=copies.MOST_DAYS,
+                        help=f"how many copies of days are kept ({copies.MOST_DAYS})")
     given = parser.parse_args()
     if given.days < 1:
         parser.error("--days is 1 at least")

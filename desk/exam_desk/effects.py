@@ -20,9 +20,9 @@ FIGURES = ("SELECT code, coalesce(entered, 0), coalesce(seated, 0) FROM session 
            "JOIN paper ON paper.code = paper WHERE live = 1 GROUP BY session) USING (code) "
            "LEFT JOIN (SELECT session AS code, count(*) AS seated FROM seat GROUP BY session) USING (code) "
            "ORDER BY day, start, code")
-NO_SEAT = ("SELECT session, number FROM entry JOIN paper ON code = paper WHERE live = 1 "
-           "EXCEPT SELECT session, number FROM seat")
-UNSEATED = ("without a desk", "without a desk")
+ENTERED = "SELECT session, printf('%07d', number) FROM entry JOIN paper ON code = paper WHERE live = 1"
+UNSEATED = f"{ENTERED} EXCEPT SELECT session, printf('%07d', number) FROM seat"  # who is, and has no seat there
+WITHOUT_DESK = ("without a desk",) * 2
 OVER, OPENED, CLASHES, TWICE, HALLS, PRINTED, CODES = ("over", "opened", "clashes", "twice", "halls", "printed",
                                                        "codes")
 OPENINGS = "SELECT session, hall FROM opening ORDER BY session, hall"
@@ -100,7 +100,7 @@ class Effects:
         shown = [f"{len(others[code]):,} in {code}" + (f" (before {len(was[code]):,})" if was[code] else "")
                  for code in sorted(others, key=lambda code: len(others[code]), reverse=True)]
         who = [*itertools.chain(*others.values())]
-        return [f"{counted(UNSEATED, who)}: {few(shown, most or len(shown))}"] if who else []
+        return [f"{counted(WITHOUT_DESK, who)}: {few(shown, most or len(shown))}"] if who else []
 
     def notes(self) -> list[str]:
         """How it is noted that somebody did not come, where the change takes somebody out of a session on its day or
@@ -182,10 +182,10 @@ def figures(reading: Reading) -> dict[str, tuple[int, int]]:
     return {code: (entered, seated) for code, entered, seated in reading.rows.execute(FIGURES)}
 
 
-def unseated(reading: Reading) -> dict[str, list[int]]:
+def unseated(reading: Reading) -> dict[str, list[str]]:
     """The numbers of those who are entered and have no seat, by session."""
-    found: dict[str, list[int]] = defaultdict(list)
-    for code, number in reading.rows.execute(NO_SEAT):
+    found: dict[str, list[str]] = defaultdict(list)
+    for code, number in reading.rows.execute(UNSEATED):
         found[code].append(number)
     return found
 

@@ -18,7 +18,7 @@ NAME = "log"
 WITH_REASON = {"decide": 4, "lodge": 6}  # words at most, behind which a reason stands, which is private
 BESIDE_OTHERS = ["lodge"]  # it goes the candidates' way, without the office for itself
 BEGINS, STEP = "begins", "step"
-ALL_BYTES = 1 << 30
+ALL_BYTES = 1 << 30  # more than a log ever has
 
 
 @dataclass

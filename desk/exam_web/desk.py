@@ -27,9 +27,7 @@ from exam_desk.office import Office, Trouble
 from exam_desk.reading import Reading
 from exam_web.wording import said, text
 
-ENTERED = "SELECT session, printf('%07d', number) FROM entry JOIN paper ON code = paper WHERE live = 1"
-AT_ONCE = f"{ENTERED} GROUP BY session, number HAVING count(*) > 1"  # who has two live entries in a session
-UNSEATED = f"{ENTERED} EXCEPT SELECT session, printf('%07d', number) FROM seat"  # who has one, and no seat there
+AT_ONCE = f"{effects.ENTERED} GROUP BY session, number HAVING count(*) > 1"  # who has two live entries in a session
 Found = TypeVar("Found")
 Given = ParamSpec("Given")
 Form = MultiDict[str, str]
@@ -101,7 +99,7 @@ def sums(view: View) -> dict[str, Sums]:
 
 @once
 def sittings(view: View, query: str) -> set[tuple[str, str]]:
-    """What AT_ONCE, or UNSEATED, finds: of each the session and the number."""
+    """What AT_ONCE, or UNSEATED of `effects`, finds: of each the session and the number."""
     return {(code, number) for code, number in view.rows(query)}
 
 

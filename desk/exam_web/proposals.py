@@ -26,8 +26,8 @@ from exam_desk.listed import OF_THE_OFFICE
 from exam_desk.office import Office, Stale, Trouble
 from exam_desk.reading import Reading
 from exam_desk.second_sitting import left_behind
-from exam_web.desk import (UNSEATED, Asked, Desk, Form, Page, View, Wrong, attached, desk, keep, lead,
-                           office, sittings, sums, view)
+from exam_web.desk import (Asked, Desk, Form, Page, View, Wrong, attached, desk, keep, lead, office, sittings, sums,
+                           view)
 from exam_web.wording import said, text
 
 pages = Blueprint("proposals", __name__)
@@ -63,7 +63,7 @@ class Effects(effects.Effects):
         self.rows = [*itertools.islice(telling.other_values(then, now), MOST_ROWS)]
         self.clashing = [(code, now.member(code, person.number), missed)
                          for code, person, missed in self.clashes[:MOST_ROWS]]
-        short = set() if self.changes else sittings(after, UNSEATED) - sittings(before, UNSEATED)
+        short = set() if self.changes else sittings(after, effects.UNSEATED) - sittings(before, effects.UNSEATED)
         self.short = [(code, person) for code in are for person in effects.by_name(
             now, [number for session, number in short if session == code])][:MOST_ROWS]
         who = {kind: effects.who(kind, found) for kind, found in self.met.items() if kind != effects.PRINTED} | {

@@ -3,7 +3,7 @@ invigilators' sheets. Besides, who must be told of changes."""
 import functools
 import unicodedata
 from collections import Counter, defaultdict
-from collections.abc import Collection, Iterable, Iterator, Mapping, Sequence
+from collections.abc import Callable, Collection, Iterable, Iterator, Mapping, Sequence
 
 from markupsafe import Markup
 
@@ -88,9 +88,9 @@ class Session:
 
 
 def page(reading: Reading, name: str, session: str, asked: Collection[str] = ()) -> str:
-    """A paper of a session, by its name in PAPERS; of all halls, or of some. Raises `Trouble` as `Session`."""
+    """A paper of a session, by the name of what makes it; of all halls, or of some. Raises `Trouble` as `Session`."""
     of = Session(reading, session, asked)
-    found = joined(html("<div class=sheet>{}</div>\n", sheet) for sheet in globals()[name](of))
+    found = joined(html("<div class=sheet>{}</div>\n", sheet) for sheet in MAKERS[name](of))
     why = html("{}, none has a desk: <code>office why {}</code> says why", lists.count(len(of.members), "candidate"),
                session) if of.members else "nobody is entered"
     return document(reading, f"{PAPERS[name].title} {session}",
@@ -223,6 +223,10 @@ def row_of(of: Session, member: Member, paper: Markup, is_noted: bool, arranged:
                             1 + until.count("<br>"))
     return [of.desk(member), member.number, text(member.name), paper, until,
             joined(map(text, arranged), "<br>"), ""], max(ROW, height)
+
+
+MAKERS: dict[str, Callable[[Session], Iterator[Markup]]] = {
+    make.__name__: make for make in (board, cards, chart, counts, doors, poster, signatures)}
 
 
 def width(words: str) -> float:
