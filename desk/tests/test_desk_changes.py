@@ -445,6 +445,8 @@ class TestBesideKeep(DeskSchool):
         self.assertEqual(set(answers), {200})
         self.browser.post("/office/keep", "/office", what="stop")
         self.assertIn("not served", self.browser.words("/office"))
+        _, text = self.browser.post("/office/keep", "/office", 409, what="stop")  # another tab has stopped it
+        self.assertIn("candidates are not served", text)
 
 
 class TestManyOfficers(DeskSchool):
