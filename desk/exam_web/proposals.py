@@ -197,14 +197,14 @@ def rehearse(plan: Plan, here: Desk, who: Office) -> None:
     """Carries the plan out on a private copy, and keeps what that would come to; an appeal is lodged and granted there.
     Raises `Trouble` where the steps were made for another state, whatever they would do in this one."""
     plan.since = datetime.datetime.now().isoformat(" ", "seconds")
-    steps = plan.steps
+    steps, held = plan.steps, here.held  # from before the office is copied
     with contextlib.ExitStack() as stack:
         if plan.lodge:
             plan.stage = LODGING
             who = dataclasses.replace(who, path=stack.enter_context(private.private_copy(who.path, who.path)))
             steps = plan.grant(who)
         rehearsal = stack.enter_context(changing.rehearse(who, steps, partial(setattr, plan, "stage")))
-        before = here.fresh() or View(here.office, rehearsal.before)
+        before = held if held and held is here.fresh() else View(here.office, rehearsal.before)
         if plan.made_for not in ("", before.name):
             raise Trouble(OTHER_OFFICE)
         if not plan.lodge:  # a grant may be refused where a lodging is not

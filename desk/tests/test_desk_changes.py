@@ -147,6 +147,26 @@ class TestRehearsal(DeskSchool):
         self.assertNotIn("nothing was done", self.browser.words(page))
         self.assertNotEqual(self.seats(), before)
 
+    def test_another_officer_while_it_is_rehearsed(self):
+        """A page shows the office as it is then; the rehearsal began before."""
+        self.end()
+        slow = self.write("slow", "")
+        self.environment["EXAMOFFICE"] = self.write("program", (
+            f'#!/bin/sh\n[ "$2" = {self.path} ] || case "$*" in *" withdraw "*) while [ -e {slow} ]; do sleep 0.05; done;; '
+            f'esac\nexec {sample.built_program()} "$@"\n'))
+        os.chmod(self.environment["EXAMOFFICE"], 0o700)
+        self.start()
+        self.browser.get("/")
+        page, _ = self.browser.post("/propose/withdraw", "/candidates/1051", number="0001051", paper="PH-1")
+        other = self.rows("SELECT number FROM entry WHERE paper = 'PH-1' AND number <> 1051")[0][0]
+        self.office("withdraw", f"{other:07}", "PH-1")
+        self.browser.get("/")
+        os.remove(slow)
+        self.assertEqual(effects(self.browser.get(page))["leaves"], (1, 1))
+        self.browser.post(page + "/do", page)
+        self.assertIn("nothing was done", self.browser.words(page))
+        self.assertNotIn("should never be", self.browser.words(page))
+
     def test_another_name_is_asked_once_more_where_the_code_is_another_meanwhile(self):
         page, _ = self.browser.post("/propose/name", "/candidates/1051", number="0001051", name="Di Marsh")
         row = "number,name,code\n0001051,Di Berg,OTHERCODE1\n"
