@@ -97,6 +97,14 @@ class TestRehearsal(DeskSchool):
                                         **{"hall": "R14", "desks": "9", "until": "14:00", **values})
             self.assertRegex(text, rf'name="{"|".join(values)}"[^>]*aria-invalid="true"')
 
+    def test_the_other_hall_stays_where_the_first_rehearsal_is_gone(self):
+        """Its visit may be over, or have twenty later ones."""
+        form = {"session": "MON-AM", "lost": "GYM", "proposal": "gone", "hall": "R14", "desks": "30", "until": "14:00"}
+        page, _ = self.browser.post("/propose/close", "/sessions/MON-AM", **form)
+        self.assertIn("Close GYM for MON-AM , and have R14 with 30 desks until 14:00", self.browser.words(page))
+        _, text = self.browser.post("/propose/close", "/sessions/MON-AM", 422, **{**form, "hall": "GYM"})
+        self.assertIn("this is the hall that is lost", text)
+
     def test_a_hall_that_the_office_does_not_know_yet(self):
         new = {"new_hall": "TENT", "new_title": "Tent <b>", "new_features": ["screen", "step-free"], "desks": "30",
                "until": "14:00", "hall": "R14"}
