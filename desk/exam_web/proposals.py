@@ -240,8 +240,9 @@ def carry_out(plan: Plan, here: Desk, who: Office) -> None:
 
 
 def done_since(who: Office, when: str) -> list[list[str]]:
-    """The last lines of the log on what has ended since then."""
-    return [line for line in logbook.last_lines(who)
+    """The last lines of the log on what has ended since then; a refusal in words."""
+    return [[*line, refusals.SENTENCES.get(refusals.number_of(answer) or 0, answer)]
+            for *line, answer in logbook.last_lines(who)
             if line[0] >= when and line[3] not in (logbook.BEGINS, logbook.STEP)]
 
 
