@@ -44,6 +44,17 @@ for visit in here.visits.values():
     visit.seen -= 8 * 3600 + 1
 print(first, len(here.visits), ask(), len(here.visits))
 """
+FULL = MAKE + """
+import errno
+app.extensions['guard'].visits = {guard.digest('secret'): guard.Visit('ab', 'x')}
+client = app.test_client()
+client.set_cookie('localhost', 'desk', 'secret')
+def full():
+    raise OSError(errno.ENOSPC, 'No space left on device', '/there')
+app.view_functions['season.page'] = full
+answer = client.get('/')
+print(answer.status_code, answer.text)
+"""
 
 
 def routes():
@@ -324,6 +335,13 @@ class TestIdle(unittest.TestCase):
     def test_a_visit_ends_after_eight_hours_without_a_click(self):
         done = subprocess.run([PYTHON, "-c", IDLE, DESK], capture_output=True, text=True, check=True)
         self.assertEqual(done.stdout.split(), ["/", "2", "/enter", "0"])
+
+
+@unittest.skipUnless(HAS_FLASK, "Flask or waitress is missing")
+class TestFull(unittest.TestCase):
+    def test_a_full_disk_says_where_room_can_be_made(self):
+        done = subprocess.run([PYTHON, "-c", FULL, DESK], capture_output=True, text=True, check=True)
+        self.assertRegex(done.stdout, "(?s)^507 .*The disk is full: make room, for example in the folder .*/days")
 
 
 @unittest.skipUnless(HAS_FLASK, "Flask or waitress is missing")

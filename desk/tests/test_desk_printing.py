@@ -234,7 +234,7 @@ class TestPrinting(DeskSchool):
             _, text = self.browser.post(page + "/absent", page, 422, **values)
             self.assertIn("nobody can have been present or absent before that day", text)
         answer, text = self.browser.ask("GET", page + "/attendance.csv")
-        self.assertNotEqual(answer.status, 200)
+        self.assertEqual(answer.status, 409)
         self.assertIn("nobody can have been present or absent before that day", text)
         self.assertIsNone(notebook.absent(self.value, "MON-AM"))
 
