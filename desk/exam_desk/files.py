@@ -90,13 +90,20 @@ def put(path: str, text: bytes) -> None:
 def records(text: bytes, comma: bytes = b",") -> Iterator[Record]:
     """The records of a file, the header among them. Blank lines are none; an open quote runs to the end. Python's
     reader finds them in texts, so each byte becomes a letter. It knows no byte order mark, and says nothing of an open
-    quote: such a quote holds the blank line that is put behind the file."""
-    lines = io.TextIOWrapper(io.BytesIO(text.removeprefix(BOM)), "latin-1", newline="")
-    behind = iter(["\n"])
+    quote: such a quote holds the blank line that is put behind the file. Raises `csv.Error` at a record that is longer
+    than what an import takes."""
+    behind, line, size = iter(["\n"]), 1, 0
+
+    def lines() -> Iterator[str]:
+        nonlocal size
+        for each in io.TextIOWrapper(io.BytesIO(text.removeprefix(BOM)), "latin-1", newline=""):
+            if (size := size + len(each)) > MOST_BYTES + 1:
+                raise csv.Error
+            yield each
     csv.field_size_limit(MOST_BYTES + 1)
-    reader = csv.reader(itertools.chain(lines, behind), delimiter=comma.decode("ascii"))
-    line = 1
+    reader = csv.reader(itertools.chain(lines(), behind), delimiter=comma.decode("ascii"))
     for fields in reader:
+        size = 0
         if fields:
             closed = operator.length_hint(behind) > 0
             if not closed:
