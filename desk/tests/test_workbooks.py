@@ -228,6 +228,8 @@ class Columns(unittest.TestCase):
         for text, said in (('dates = "first"', "dates is day-first or month-first"), ("halls = 1", "halls is none of the"),
                            ('[halls]\nfeatures = { always = "big" }', "features: write a header"),
                            ('[halls]\nhall = ["A", "B"]', "for names and titles also several"),
+                           ('[halls]\ntitle = ["Room no.", "room NO"]', "also several that differ"),
+                           ("[words.start]\nnoon = '12:00'\nNoon = '12:30'", "'Noon' stands for two values"),
                            ('[halls]\nsheet = { always = "A" }', "sheet: write a header"), ("words = 1", "write a table such"),
                            ("[words.room]\na = 'b'", "room is no column"), ("[words]\nhall = 1", "write a table such"),
                            ("[words.start]\nnoon = 12", "write a table such"),
