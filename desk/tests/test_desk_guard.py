@@ -284,6 +284,7 @@ class TestProcess(DeskSchool):
             self.end(number)
             self.assertEqual(os.listdir(os.path.join(self.desk, "tmp")), [])
             self.assertFalse(os.path.exists(os.path.join(self.desk, "links")))
+            self.assertEqual(os.path.getsize(os.path.join(self.desk, "desk.lock")), 0)  # it says where a desk is
             sample.until(lambda: not any(os.path.exists(f"/proc/{child}") for child in children))
             self.start()
 
