@@ -91,8 +91,10 @@ def everywhere() -> dict[str, Any]:
 
 def problem(fault: Exception) -> ResponseReturnValue:
     """A fault in words: of a request, or what the package, a file or the database refuses."""
-    said, status = wording.said(str(fault)), 409 if isinstance(fault, Trouble) else 500
-    if isinstance(fault, HTTPException):
+    said, status = wording.said(str(fault)), 500
+    if isinstance(fault, Trouble):
+        said, status = wording.refused(fault), 409
+    elif isinstance(fault, HTTPException):
         if fault.code == 401:
             return (guard.page("visit"), 401) if request.method == "POST" else redirect(url_for("entering.page"))
         said, status = escape(fault.description), fault.code or 500
