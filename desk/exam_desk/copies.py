@@ -19,7 +19,6 @@ MOST_COPIES, MOST_DAYS = 50, 30  # from before changes, and of days
 MOST_BYTES = 1 << 30
 MOST_LETTERS, MOST_TITLE = 100, 400  # of a command in the name of a copy, and in its title
 PLACE, TITLE = "copies", "title"  # of copies, of the command in one
-BACK = "back to "  # with it begins the title of a copy from before another was put back
 NAME = re.compile(r"(?:([0-9]+) )?([0-9]{4}-[0-9]{2}-[0-9]{2}) ([0-9.]{8,15}) (.*)")  # version 1.0.0 gave no numbers
 DAY = re.compile("[0-9]{4}-[0-9]{2}-[0-9]{2}")
 EMPTY_LOG = 41  # bytes of a second file that holds no change
@@ -208,12 +207,6 @@ def move_in(office: Office, path: str) -> None:
     beside.sync(os.path.dirname(place))
     os.replace(path, place)
     beside.sync(os.path.dirname(place))
-
-
-def title_of_back(copy: str) -> str:
-    """Before what a copy of now is made where this one is put in its place."""
-    when, what = when_and_what(copy)
-    return f"{BACK}{what if is_brought(copy) else when}"
 
 
 def losses(office: Office, copy: str) -> list[Said]:

@@ -34,7 +34,7 @@ def served(office: Office) -> Iterator[asking.Server]:
 
 def refuse(office: Office, complaint: str) -> NoReturn:
     """Raises `Trouble`, which says what a refusal of `serve` means."""
-    raise Trouble("; ".join([complaint, *map(str.strip, refusals.explained(office, ["serve"], complaint))]))
+    raise Trouble("; ".join([complaint, *refusals.explained(office, ["serve"], complaint)]))
 
 
 def post(server: asking.Server, number: str, code: str, body: bytes) -> dict[str, object]:
@@ -70,7 +70,7 @@ def lodge(office: Office, words: Sequence[str]) -> Answered:
         outcome.status = int("error" in answer)
         outcome.answer = f"refused {answer['error']}{last}" if outcome.status else f"{ref} {answer['state']}"
     ran = Ran(1, "", f"{outcome.answer}\n") if outcome.status else Ran(0, f"{words[0]} {outcome.answer}\n", "")
-    return Answered(Step(("lodge", *words)), ran)
+    return Answered(Step(("lodge", *words)), ran, office)
 
 
 def grant(lodged: Answered) -> Step:
