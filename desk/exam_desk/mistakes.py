@@ -166,15 +166,11 @@ def looked_through(kind: str, text: bytes, known: Known, most: int = MOST_COUNTE
     return file.looked_through(file.rows(text))
 
 
-def place_of(line: int) -> str:
-    return f"line {line}"
-
-
 class File:
     """A file of rows while it is looked through."""
 
     def __init__(self, kind: str, known: Known, most: int = MOST_COUNTED,
-                 place: Callable[[int], str] = place_of) -> None:
+                 place: Callable[[int], str] = "line {}".format) -> None:
         self.kind, self.known, self.header = kind, known, files.HEADERS[kind]
         self.place = place  # how the row of a line is called
         self.wrong, self.notes = Found(most), Found(most)

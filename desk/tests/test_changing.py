@@ -1,6 +1,7 @@
 """Changes of several steps: tried on a copy, carried out whole or not at all, and what is said after a kill."""
 import contextlib
 import os
+import re
 import shutil
 import signal
 import sqlite3
@@ -603,6 +604,16 @@ class Taking(Changing):
         said = self.office("take", facts, "--yes")
         self.assertRegex(said, "entries!A174.*0009001")
         self.assertIn("entries.csv: added 2 changed 0 same 172\n", said)
+
+    def test_all_cells_and_all_candidates_are_named_where_this_is_asked(self):
+        facts = self.facts()
+        with open(os.path.join(facts, "candidates.csv"), encoding="utf-8") as file:
+            text = re.sub("(?m)^000([12]...),([^,]*)", r"\1,\2 X", file.read())
+        self.write("facts/candidates.csv", text)
+        for words, cells, named in ([], 1, 20), (["--all"], 60, 60):
+            said = self.run_office("take", facts, *words, stdin="n\n").stdout
+            found = [len(re.findall(f"(?m)^{line}", said)) for line in ("candidates!A.* became ", "  000[12]... .* -> .* X$")]
+            self.assertEqual([cells, named], found, words)
 
     def test_no_office(self):
         self.assertIn("`office init` makes a new one", self.refused("take", self.facts(), OFFICE=self.path + ".none"))
