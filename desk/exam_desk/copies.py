@@ -50,7 +50,7 @@ def keep_day(office: Office, day: datetime.date, most: int = MOST_DAYS) -> str |
     if os.path.lexists(beside.folder(office.path, beside.DAYS, day.isoformat())):
         return None
     copy = make(office, beside.DAYS, day.isoformat())
-    found = sorted(folders(office, beside.DAYS, DAY), key=lambda path: (path == copy, path <= copy, path))
+    found = sorted(folders(office, beside.DAYS, DAY), key=lambda path: (path <= copy, path))
     for old in found[:-most]:
         drop(old)
     return copy
@@ -202,8 +202,7 @@ def move_in(office: Office, path: str) -> None:
     if os.path.exists(place):
         with contextlib.suppress(sqlite3.Error):  # what is damaged, or has no room, is in a copy
             in_one_file(place)
-    for ending in ("-wal", "-shm"):
-        pathlib.Path(place + ending).unlink(missing_ok=True)
+    pathlib.Path(f"{place}-wal").unlink(missing_ok=True)
     beside.sync(os.path.dirname(place))
     os.replace(path, place)
     beside.sync(os.path.dirname(place))
@@ -231,7 +230,6 @@ def attached(office: Office, copy: str) -> Iterator[sqlite3.Connection]:
         paths = [stack.enter_context(private.private_copy(path, office.path))
                  for path in (office.path, file_in(office, copy))]
         both = stack.enter_context(contextlib.closing(sqlite3.connect(":memory:")))
-        both.text_factory = lambda text: text.decode("utf-8", "replace")
         for moment, path in zip(("now", "other"), paths):
             both.execute(f"ATTACH ? AS {moment}", [path])
         yield both
