@@ -215,6 +215,8 @@ class Told(sample.SampleSchool):
             rows = file.read()
         os.remove(self.path)
         self.office("init")
+        path = str(self.examples / "sessions.csv")
+        self.assertEqual(self.office("what-if", "import", "sessions", path), "added 3 changed 0 same 0\n")
         for kind in sample.KINDS:
             text = rows if kind == "openings" else (self.examples / f"{kind}.csv").read_text("utf-8")
             lines = self.told("import", kind, self.write(f"{kind}.csv", text))
