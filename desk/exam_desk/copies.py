@@ -202,7 +202,8 @@ def move_in(office: Office, path: str) -> None:
     if os.path.exists(place):
         with contextlib.suppress(sqlite3.Error):  # what is damaged, or has no room, is in a copy
             in_one_file(place)
-    pathlib.Path(f"{place}-wal").unlink(missing_ok=True)
+    for ending in ("-wal", "-shm"):  # whoever has the old file open shares none of them with the new one
+        pathlib.Path(place + ending).unlink(missing_ok=True)
     beside.sync(os.path.dirname(place))
     os.replace(path, place)
     beside.sync(os.path.dirname(place))
