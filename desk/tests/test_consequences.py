@@ -396,6 +396,7 @@ class Told(sample.SampleSchool):
         newest = copies.listed(self.value)[0]
         lines = effects.done(self.value, newest, lambda *_: None)
         self.assertTrue(lines[0].startswith("1 sits another paper: MON-AM 0001306 "), lines)
+        self.assertEqual(effects.place_of(self.value, f"{newest}-gone"), 3)  # it gave way to newer ones
 
     def test_no_memory(self):
         carried = changing.carry_out(self.value, [changing.Step(("withdraw", "0001000", "MA-1"))])
