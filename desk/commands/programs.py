@@ -73,7 +73,7 @@ class Asked(Change):
 
     def __call__(self) -> int:
         with rehearsed(self) as (_, rehearsal):
-            made_from, promised = (snapshot.name_now(rehearsal.office, path)
+            made_from, promised = (snapshot.name_now(command.office(), path)
                                    for path in (rehearsal.before, rehearsal.after))
             if made_from == promised:
                 put("the office has all this already: nothing is changed\n")
@@ -122,7 +122,7 @@ class List(Change):
         words, status = f"line {line}: {answered.step.title()}: {answered.first_line()}", answered.ran.status
         if not status:
             return int(not put(f"{plain(words)}\n"))
-        command.complain([words, *answered.explained(command.office())])
+        command.complain([words, *below(answered)])
         return status
 
 
@@ -133,7 +133,7 @@ class Back(Change):
     is_agreed: bool
 
     def said(self, rehearsal: Rehearsal) -> int:
-        self.tell("would be", copies.losses(rehearsal.office, self.copy))
+        self.tell("would be", copies.losses(command.office(), self.copy))
         return 0
 
     def tell(self, verb: str, taken: list[Said]) -> None:
@@ -170,7 +170,7 @@ def rehearsed(change: Change) -> Iterator[tuple[int, Rehearsal]]:
     `migrate` nobody here can read the tables."""
     with changing.rehearse(command.office(), change.steps, command.progress, change.copy, change.is_over) as rehearsal:
         command.progress("")
-        if change.made_for and change.made_for != snapshot.name_now(rehearsal.office, rehearsal.before):
+        if change.made_for and change.made_for != snapshot.name_now(command.office(), rehearsal.before):
             raise Stale("the office changed meanwhile, so nothing is changed: give the command again")
         status = change.said(rehearsal)
         done = {each.step.words[0] for each in rehearsal.answers if each.ran.status == 0}
@@ -255,7 +255,7 @@ def of_program(words: list[str]) -> Change | None:
         return None
     if words[0] in NUMBERED:
         words = [words[0], *map(typed.number, words[1:2]), *words[2:]]
-    _, path = refusals.imported(words) or ("", "")
+    _, path = refusals.imported(words)
     data = None
     with contextlib.suppress(OSError):  # the program says so of an import
         data = files.read(path, command.warn)  # before the office is taken
@@ -275,8 +275,12 @@ def of_list(name: str, path: str) -> List:
 def refuse(answers: list[Answered]) -> None:
     """Raises `Trouble`, after what the program says of it and what that means, where a step is refused."""
     if refused := changing.refused_of(answers):
-        command.complain([f"{refused.step.title()}: {refused.first_line()}", *refused.explained(command.office())])
+        command.complain([f"{refused.step.title()}: {refused.first_line()}", *below(refused)])
         raise Trouble("nothing is changed")
+
+
+def below(answered: Answered) -> list[str]:
+    return [f"  {line}" for line in answered.explained()]
 
 
 def put(text: str) -> bool:
@@ -288,13 +292,13 @@ def put(text: str) -> bool:
     return True
 
 
-def said(step: Step, ran: Ran) -> int:
+def said(step: Step, ran: Ran, office: Office | None = None) -> int:
     """Prints what the program said of a step, and what a refusal of it means; the status."""
     if not put(ran.answer):
         ran = ran._replace(status=1, complaint=ran.complaint + "write fault\n")
     lines = list[str]()
     if ran.status in (0, 1):
-        lines = Answered(step, ran).explained(command.office())
+        lines = below(Answered(step, ran, office or command.office()))
     elif ran.status == 2:
         lines = usage(*step.words)
     elif ran.status > 128:

@@ -31,8 +31,8 @@ ALONE = ("its second file, whose name ends in -wal, is not in it, and can hold t
          "where there is no second file an empty one does")
 BROKEN = "it is no zip, or broken or cut short: bring it again, or another backup"
 TOO_LARGE = "it is larger than any office"
-UNREADABLE = (zipfile.BadZipFile, zipfile.LargeZipFile, zlib.error, lzma.LZMAError, RuntimeError, EOFError, OSError,
-              ValueError, OverflowError, MemoryError)
+UNREADABLE = (zipfile.BadZipFile, zlib.error, lzma.LZMAError, RuntimeError, EOFError, OSError, ValueError,
+              OverflowError, MemoryError)
 
 
 def fill(office: Office, folder: str) -> None:

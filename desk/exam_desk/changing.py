@@ -18,7 +18,7 @@ import signal
 import sqlite3
 import time
 from collections.abc import Callable, Iterable, Iterator, Sequence
-from dataclasses import dataclass
+from dataclasses import dataclass, replace
 from io import FileIO
 from typing import NamedTuple
 
@@ -41,15 +41,16 @@ class Step:
     def title(self) -> str:
         """The command without what is private; an import with the name of its file, where that says more than its kind,
         and with what its rows are about."""
-        if not (values := refusals.imported(self.words)):
+        kind, path = refusals.imported(self.words)
+        if not kind:
             return " ".join(logbook.shown(self.words))
-        kind, name = values[0], os.path.basename(values[1])
+        name = os.path.basename(path)
         return " ".join(["import", kind, *([name] if name not in (kind, f"{kind}.csv") else []), *self.about])
 
     @functools.cached_property
     def about(self) -> list[str]:
         """What the rows of an import are about; nothing where that is no file with the header of the kind."""
-        kind, _ = refusals.imported(self.words) or ("", "")
+        kind, _ = refusals.imported(self.words)
         found = files.records(self.data or b"")
         return named(kind, (record.fields for record in found)) if files.is_header(kind, next(found, None)) else []
 
@@ -58,17 +59,18 @@ NEW = Step(("init",))
 
 
 class Answered(NamedTuple):
-    """What the program said of a step."""
+    """What the program said of a step over an office, or over a copy of it."""
     step: Step
     ran: running.Ran
+    office: Office
 
     def first_line(self) -> str:
         said = (self.ran.answer + self.ran.complaint).split("\n")[0]
         return said or self.ran.ending()
 
-    def explained(self, office: Office) -> list[str]:
+    def explained(self) -> list[str]:
         """What it means, where it is a refusal."""
-        return refusals.explained(office, self.step.words, self.ran.complaint, self.step.data)
+        return refusals.explained(self.office, self.step.words, self.ran.complaint, self.step.data)
 
 
 class Carried(NamedTuple):
@@ -82,7 +84,6 @@ class Carried(NamedTuple):
 class Rehearsal(NamedTuple):
     """A list of steps carried out on a private copy, as long as its context lasts."""
     answers: list[Answered]  # of the steps up to the one behind which it is over
-    office: Office
     before: str  # the paths of private copies from before and after
     after: str
 
@@ -127,10 +128,10 @@ def rehearse(office: Office, steps: Sequence[Step], tell: Tell = lambda title: N
             raise snapshot.unreadable(fault.filename or office.path, fault) from fault
         if copy is not None:
             copies.check(office, after)
-        rehearsal = Rehearsal([], office, before, after)
+        rehearsal, over = Rehearsal([], before, after), replace(office, path=after)
         for step in steps:
             tell(step.title())
-            rehearsal.answers.append(Answered(step, running.run_over(office, after, *step.words, data=step.data)))
+            rehearsal.answers.append(Answered(step, running.run_over(office, after, *step.words, data=step.data), over))
             if is_over(rehearsal.answers):
                 break
         yield rehearsal
@@ -146,19 +147,18 @@ def carry_out(office: Office, steps: Sequence[Step], made_from: str | None = Non
     office.today()  # a day that is none is said before anything begins
     if not os.path.isfile(office.path):  # the program says so
         ran = running.run_over(office, office.path, *steps[0].words, data=steps[0].data)
-        return Carried([Answered(steps[0], ran)], None, None)
+        return Carried([Answered(steps[0], ran, office)], None, None)
     shown = title or ", ".join(step.title() for step in steps)
     with unchanged(office), turn(office, shown, made_from) as lock, copied(office, shown) as copy:
         if len(steps) == 1:
             tell(steps[0].title())
             answers = [carried(office, lock, steps[0], logbook.BEGINS, copy, title)]
-            complaint = answers[0].ran.complaint
-            if (complaint.startswith(("refused", "file fault"))
-                    and refusals.number_of(complaint) not in refusals.MAYBE_DONE):  # then the bytes tell
+            number = refusals.number_of(answers[0].ran.complaint)
+            if number and number not in refusals.MAYBE_DONE:  # else the bytes tell
                 copies.drop(copy)
         else:
             answers = carried_all(office, lock, shown, steps, copy, tell)
-        if any((refusals.imported(step.words) or "-")[0] in titles.KINDS for step in steps):
+        if any(refusals.imported(step.words)[0] in titles.KINDS for step in steps):
             titles.renew(office)
         as_promised = None if promised is None else state_of(office) == promised
         return Carried(answers, copies.kept_if_other(office, copy), as_promised)
@@ -216,9 +216,8 @@ def run_patiently(office: Office, step: Step, lock: FileIO | None = None, copy: 
         ran = running.run_over(office, office.path, *step.words, data=step.data, lock=lock)
         if refusals.number_of(ran.complaint) != 23 or time.monotonic() - began > refusals.patience(office):
             return ran
-        with contextlib.suppress(OSError):  # the file is gone just then
-            if copy and not copies.is_as_now(office, copy):
-                return ran
+        if copy and not copies.is_as_now(office, copy):
+            return ran
         time.sleep(PAUSE)
 
 
@@ -226,10 +225,10 @@ def carried(office: Office, lock: FileIO, step: Step, status: str, copy: str = "
     """Carries out one step with the office alone, which the program does whole or not at all; `status` begins its line
     in the log, which can have another title, and name a copy. Raises OSError where nothing can be written there, and
     nothing is done."""
-    kind, file = refusals.imported(step.words) or ("", "-")
-    words = [title] if title else [*(step.words[:2] if kind == file else step.words), *step.about]
+    kind, file = refusals.imported(step.words)
+    words = [title] if title else [*(step.words[:2] if kind and kind == file else step.words), *step.about]
     with logbook.logged(office, words, status, os.path.basename(copy)) as outcome:
-        answered = Answered(step, run_patiently(office, step, lock, copy))
+        answered = Answered(step, run_patiently(office, step, lock, copy), office)
         outcome.status, outcome.answer = answered.ran.status, answered.first_line()
     return answered
 
@@ -275,7 +274,9 @@ def go_back(office: Office, words: Sequence[str], copy: str, may_go: Callable[[l
         with unchanged(office):
             path, kept = stack.enter_context(copies.ready(office, copy)), ""
             if os.path.exists(os.path.realpath(office.path)):
-                kept = stack.enter_context(copied(office, copies.title_of_back(copy), copy))
+                when, what = copies.when_and_what(copy)
+                title = f"back to {what if copies.is_brought(copy) else when}"
+                kept = stack.enter_context(copied(office, title, copy))
             elif copies.is_brought(copy):
                 with contextlib.suppress(OSError):  # it has none, or one is here already
                     os.rename(os.path.join(copy, notebook.PLACE), beside.folder(office.path, notebook.PLACE))

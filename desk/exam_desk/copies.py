@@ -19,7 +19,6 @@ MOST_COPIES, MOST_DAYS = 50, 30  # from before changes, and of days
 MOST_BYTES = 1 << 30
 MOST_LETTERS, MOST_TITLE = 100, 400  # of a command in the name of a copy, and in its title
 PLACE, TITLE = "copies", "title"  # of copies, of the command in one
-BACK = "back to "  # with it begins the title of a copy from before another was put back
 NAME = re.compile(r"(?:([0-9]+) )?([0-9]{4}-[0-9]{2}-[0-9]{2}) ([0-9.]{8,15}) (.*)")  # version 1.0.0 gave no numbers
 DAY = re.compile("[0-9]{4}-[0-9]{2}-[0-9]{2}")
 EMPTY_LOG = 41  # bytes of a second file that holds no change
@@ -51,7 +50,7 @@ def keep_day(office: Office, day: datetime.date, most: int = MOST_DAYS) -> str |
     if os.path.lexists(beside.folder(office.path, beside.DAYS, day.isoformat())):
         return None
     copy = make(office, beside.DAYS, day.isoformat())
-    found = sorted(folders(office, beside.DAYS, DAY), key=lambda path: (path == copy, path <= copy, path))
+    found = sorted(folders(office, beside.DAYS, DAY), key=lambda path: (path <= copy, path))
     for old in found[:-most]:
         drop(old)
     return copy
@@ -203,17 +202,11 @@ def move_in(office: Office, path: str) -> None:
     if os.path.exists(place):
         with contextlib.suppress(sqlite3.Error):  # what is damaged, or has no room, is in a copy
             in_one_file(place)
-    for ending in ("-wal", "-shm"):
+    for ending in ("-wal", "-shm"):  # whoever has the old file open shares none of them with the new one
         pathlib.Path(place + ending).unlink(missing_ok=True)
     beside.sync(os.path.dirname(place))
     os.replace(path, place)
     beside.sync(os.path.dirname(place))
-
-
-def title_of_back(copy: str) -> str:
-    """Before what a copy of now is made where this one is put in its place."""
-    when, what = when_and_what(copy)
-    return f"{BACK}{what if is_brought(copy) else when}"
 
 
 def losses(office: Office, copy: str) -> list[Said]:
@@ -238,7 +231,6 @@ def attached(office: Office, copy: str) -> Iterator[sqlite3.Connection]:
         paths = [stack.enter_context(private.private_copy(path, office.path))
                  for path in (office.path, file_in(office, copy))]
         both = stack.enter_context(contextlib.closing(sqlite3.connect(":memory:")))
-        both.text_factory = lambda text: text.decode("utf-8", "replace")
         for moment, path in zip(("now", "other"), paths):
             both.execute(f"ATTACH ? AS {moment}", [path])
         yield both

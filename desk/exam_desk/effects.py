@@ -26,7 +26,7 @@ WITHOUT_DESK = ("without a desk",) * 2
 OVER, OPENED, CLASHES, TWICE, HALLS, PRINTED, CODES = ("over", "opened", "clashes", "twice", "halls", "printed",
                                                        "codes")
 OPENINGS = "SELECT session, hall FROM opening ORDER BY session, hall"
-OF_PLACES = [OVER, OPENED, HALLS, PRINTED]  # kinds of which sessions and halls are counted, and not people
+OF_PLACES = [OVER, OPENED, HALLS, PRINTED]  # kinds that count sessions or halls, and not people
 COUNTED = ["gets", "leaves", "joins", "desk"]  # not named where the others are listed with what becomes of them
 LISTED_BY = {CLASHES: "look --clashes", TWICE: "summary", HALLS: "summary", PRINTED: "printed"}  # others by `changes`
 MOST_NAMED = 3  # candidates in a short line, sessions or values

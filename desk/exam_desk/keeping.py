@@ -265,7 +265,6 @@ def status(office: Office) -> tuple[bool, str]:
         if answered == 404:
             return True, f"serving {plain(asking.shown(place))}, for {state['day']}, process {process}"
         fault = f"no answer within {QUESTION_SECONDS} seconds, or more clients than it takes at once"
-    means = map(str.strip, refusals.explained(office, ["serve"], fault.rpartition(": ")[2]))
-    fault = "it begins, or a command has the office" if fault == "aside" else fault
-    why = "; ".join([fault, *means])
+    means = refusals.explained(office, ["serve"], fault.rpartition(": ")[2])
+    why = "; ".join(["it begins, or a command has the office" if fault == "aside" else fault, *means])
     return False, f"process {process} does not serve now: {why}; it tries again by itself"

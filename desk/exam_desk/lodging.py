@@ -1,10 +1,8 @@
 """Lodges an appeal for a candidate who is there, the candidates' way: over HTTP, with the candidate's access code."""
 import contextlib
-import functools
 import itertools
 import json
 from collections.abc import Iterator, Sequence
-from typing import NoReturn
 
 from exam_desk import asking, beside, logbook, refusals, snapshot, turns, typed
 from exam_desk.asking import Serve
@@ -27,14 +25,11 @@ def served(office: Office) -> Iterator[asking.Server]:
                           "`office keep stop`, or leave TODAY out")
         yield asking.Server(state["pid"], state["place"])
         return
-    serve = Serve(office, office.path, functools.partial(refuse, office))
-    with turns.alone(office, ["lodge"]), contextlib.closing(serve):
+
+    def explain(complaint: str) -> None:
+        raise Trouble("; ".join([complaint, *refusals.explained(office, ["serve"], complaint)]))
+    with turns.alone(office, ["lodge"]), contextlib.closing(Serve(office, office.path, explain)) as serve:
         yield serve.started()
-
-
-def refuse(office: Office, complaint: str) -> NoReturn:
-    """Raises `Trouble`, which says what a refusal of `serve` means."""
-    raise Trouble("; ".join([complaint, *map(str.strip, refusals.explained(office, ["serve"], complaint))]))
 
 
 def post(server: asking.Server, number: str, code: str, body: bytes) -> dict[str, object]:
@@ -70,7 +65,7 @@ def lodge(office: Office, words: Sequence[str]) -> Answered:
         outcome.status = int("error" in answer)
         outcome.answer = f"refused {answer['error']}{last}" if outcome.status else f"{ref} {answer['state']}"
     ran = Ran(1, "", f"{outcome.answer}\n") if outcome.status else Ran(0, f"{words[0]} {outcome.answer}\n", "")
-    return Answered(Step(("lodge", *words)), ran)
+    return Answered(Step(("lodge", *words)), ran, office)
 
 
 def grant(lodged: Answered) -> Step:

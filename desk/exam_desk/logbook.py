@@ -41,7 +41,7 @@ def shown(words: Sequence[str]) -> list[str]:
     """The words of a command as the log and the copies have them: without a reason, also where quotes round it lack."""
     if words[0] not in WITH_REASON or len(words) == 1:
         return list(words)
-    return [word for word in words[:-1] if word != "--"][:WITH_REASON[words[0]]]
+    return list(words[:-1])[:WITH_REASON[words[0]]]
 
 
 def write(office: Office, words: Sequence[str], status: int | str, answer: str) -> None:
@@ -99,11 +99,11 @@ def closings(office: Office) -> dict[tuple[str, str], str]:
     """When `close-hall` closed a hall for a session of this office, by session and hall: the last time of each."""
     found = dict[tuple[str, str], str]()
     for when, _, command, status, _ in last_lines(office, ALL_BYTES):
-        words = command.split()
-        if status == "0" and words == ["init"]:
-            found.clear()  # of an office that is gone
-        elif status == "0" and words[:1] == ["close-hall"] and len(words) > 2:
-            found[words[-2], words[-1]] = when
+        match status, command.split():
+            case "0", ["init"]:
+                found.clear()  # of an office that is gone
+            case "0", ["close-hall", session, hall]:
+                found[session, hall] = when
     return found
 
 

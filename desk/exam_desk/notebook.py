@@ -260,7 +260,7 @@ def others_than_in(office: Office, copy: str) -> list[str]:
 
 
 def sessions_with(office: Office, word: str) -> list[str]:
-    """The sessions of which the notebook has a file of a kind."""
+    """The sessions that have a file of a kind in the notebook."""
     found = map(NAME.fullmatch, sorted(contents(office, PLACE)))
     return [each[2] for each in found if each and each[1] == word and each[2]]
 

@@ -45,16 +45,12 @@ class Trouble(Exception):
 
 
 class NoOffice(Trouble):
-    """There is no file of an office."""
-
     def __init__(self, path: str) -> None:
         super().__init__("there is no office here; go to its folder, as its user (/srv/examoffice, as examoffice, "
                          "where a package made them), or let OFFICE name its file; `office init` makes a new one", path)
 
 
 class NoCandidate(Trouble):
-    """The office has no candidate with this number."""
-
     def __init__(self, number: str) -> None:
         super().__init__(f"the office has no candidate {number}; `office look NAME` finds a number by a name")
 

@@ -65,8 +65,8 @@ def number_of(answer: str) -> int | None:
 
 
 def explained(office: Office, words: Sequence[str], complaint: str, data: bytes | None = None) -> list[str]:
-    """The lines to print below what the program said of a command, or of an import of these bytes; its complaint is
-    empty where that is done."""
+    """The lines below what the program said of a command, or of an import of these bytes; its complaint is empty where
+    that is done."""
     answer = complaint.split("\n")[0]
     number = number_of(answer)
     sentence = SENTENCES.get(number or 0) or OTHER.get(answer)
@@ -80,18 +80,19 @@ def explained(office: Office, words: Sequence[str], complaint: str, data: bytes 
         lines.append(f"it was looked for as {plain(os.path.abspath(words[-1]))}")
     elif number in OF_A_FILE or not answer:
         lines += mistakes_of(office, words, data, not answer)
-    return [f"  {plain(line)}" for line in lines]
+    return [*map(plain, lines)]
 
 
-def imported(words: Sequence[str]) -> tuple[str, str] | None:
-    """The kind and the file of an import; None of other commands."""
-    return (words[1], words[2]) if words[0] == "import" and len(words) == 3 and words[1] in files.HEADERS else None
+def imported(words: Sequence[str]) -> tuple[str, str]:
+    """The kind and the file of an import, which has the name of the kind where it is none; of other commands ''."""
+    is_one = words[0] == "import" and len(words) == 3 and words[1] in files.HEADERS
+    return (words[1], words[2]) if is_one else ("", "")
 
 
 def mistakes_of(office: Office, words: Sequence[str], data: bytes | None, is_done: bool) -> list[str]:
     """What is wrong with the rows of an import, as `office check-files` says it; of one that is done its notes on rows
     that may do nothing."""
-    kind, path = imported(words) or ("", "")
+    kind, path = imported(words)
     if data is None or is_done and kind not in IDLE:
         return []
     from exam_desk import checking, mistakes  # here, since few commands need them

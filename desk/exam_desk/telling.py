@@ -52,7 +52,7 @@ SESSIONS = {  # by table: which sessions a row that is another can change, as a 
     "seat": f"SELECT session FROM different WHERE {TO_COME}",  # the same rows can be seated in more than one way
 }
 MOMENTS = ("before", "after")
-CHANGED = ["sessions", "papers", "halls", "openings", "arrangements"]  # kinds of rows of which other values are said
+CHANGED = ["sessions", "papers", "halls", "openings", "arrangements"]  # of rows whose other values are said
 Titles = tuple[dict[str, str], dict[str, str]]  # of papers and of halls, by code
 
 

@@ -3,7 +3,6 @@ import contextlib
 import json
 import os
 import tempfile
-from typing import Any
 
 from exam_desk import beside, facts, files, snapshot
 from exam_desk.office import Office, Trouble
@@ -15,11 +14,9 @@ PLACE = "titles"  # beside the office: the path of the file
 
 
 def text(rows: Rows) -> str:
-    """Nothing of any candidate: in ASCII, by code, a line for each row."""
-    found: list[dict[str, Any]] = [
-        {head["code"]: {"date": head["day"], "start": clock(head["start"])} for head in facts.sessions(rows)},
-        facts.paper_titles(rows), facts.hall_titles(rows)]
-    return json.dumps({kind: dict(sorted(each.items())) for kind, each in zip(KINDS, found)}, indent=0) + "\n"
+    """Nothing of any candidate: in ASCII, a line for each row."""
+    days = {head["code"]: {"date": head["day"], "start": clock(head["start"])} for head in facts.sessions(rows)}
+    return json.dumps(dict(zip(KINDS, (days, facts.paper_titles(rows), facts.hall_titles(rows)))), indent=0) + "\n"
 
 
 def is_one(path: str) -> bool:

@@ -82,11 +82,12 @@ def alone(office: Office, words: Sequence[str]) -> Iterator[FileIO]:
             pause(lambda: f"another command ({beside.text_of(office.path, 'want.lock').strip()})" if is_free(turn) else
                   "`keep` (it answers candidates who wait)")
         note(want, f"process {os.getpid()}, {' '.join(words)}")
-        ask_keep_aside(office)
+        if state := keep_state(office):
+            signal_keep(state, signal.SIGUSR1)  # it steps aside
         with lock_file(office, "office.lock") as lock:
             while not try_lock(lock):
-                pause(lambda: f"`keep` (it does not step aside: {state})" if (state := keep_state(office)) else
-                      "the program (a command that began it was killed)")  # this process has want.lock
+                pause(lambda: f"`keep` (process {aside['pid']} does not step aside)" if (aside := keep_state(office))
+                      else "the program (a command that began it was killed)")  # this process has want.lock
             yield lock
 
 
@@ -124,8 +125,3 @@ def signal_keep(state: Said, number: int) -> None:
         raise Trouble("`keep` serves this office from another container or another machine: give the command there")
     with contextlib.suppress(ProcessLookupError):
         os.kill(state["pid"], number)
-
-
-def ask_keep_aside(office: Office) -> None:
-    if state := keep_state(office):
-        signal_keep(state, signal.SIGUSR1)

@@ -129,17 +129,17 @@ class Plan:
         counts = self.effects.counts if self.effects and not self.lodge else {}
         return [kind for kind, (count, _) in counts.items() if count >= TICKED.get(kind, math.inf)]
 
-    def take(self, who: Office, answers: list[Answered]) -> None:
+    def take(self, answers: list[Answered]) -> None:
         """Keeps what the program said of the steps, and in words where it refuses the last."""
         self.answers = answers
         if refused := changing.refused_of(answers):
             self.refusal = refused.first_line()
-            self.against = [each.strip() for each in refused.explained(who)] or [self.refusal]
+            self.against = refused.explained() or [self.refusal]
 
     def grant(self, who: Office) -> list[Step]:
         """Lodges the appeal, and keeps its reference; gives the step that would grant it, none where it is refused."""
         lodged = lodging.lodge(who, self.lodge)
-        self.take(who, [lodged])
+        self.take([lodged])
         if self.refusal:
             return []
         self.lodged = lodged.first_line().split()[1]
@@ -208,7 +208,7 @@ def rehearse(plan: Plan, here: Desk, who: Office) -> None:
         if plan.made_for not in ("", before.name):
             raise Trouble(OTHER_OFFICE)
         if not plan.lodge:  # a grant may be refused where a lodging is not
-            plan.take(who, rehearsal.answers)
+            plan.take(rehearsal.answers)
         if not plan.refusal:
             plan.stage = COMPARING
             after = View(here.office, rehearsal.after)
@@ -232,7 +232,7 @@ def carry_out(plan: Plan, here: Desk, who: Office) -> None:
         rehearse(plan, here, who)
         plan.moved_on = done_since(who, since)[-MOST_LINES:]
         return
-    plan.take(who, carried.answers)
+    plan.take(carried.answers)
     plan.copy, plan.as_promised = carried.copy or "", carried.as_promised is not False
     plan.is_done = not plan.refusal
     if plan.is_done:

@@ -80,7 +80,7 @@ def refused(browser, what, number):
     page, values = FORMS[what]
     line = f"refused {number}"
     ran = Ran(1, "", line + "\n")
-    lodged = changing.Answered(changing.Step(("lodge",)), ran)
+    lodged = changing.Answered(changing.Step(("lodge",)), ran, browser.app.extensions["desk"].office)
     with (mock.patch.object(changing.running, "run_over", return_value=ran),
           mock.patch.object(lodging, "lodge", return_value=lodged)):
         answer = browser.post(f"/propose/{what}", values)
@@ -108,7 +108,7 @@ def refused_late(browser, what):
         pass
     leads_back(browser, what, page)
     ran = Ran(1, "", "refused 22\n")
-    lodged = changing.Answered(changing.Step(("lodge",)), ran)
+    lodged = changing.Answered(changing.Step(("lodge",)), ran, browser.app.extensions["desk"].office)
     with (mock.patch.object(changing, "run_patiently", return_value=ran),
           mock.patch.object(lodging, "lodge", return_value=lodged)):
         browser.post(f"{page}/do", {"tick": "1"})

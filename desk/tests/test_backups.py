@@ -152,7 +152,10 @@ class TestRefused(Backups):
         lying = bytearray(whole)
         length = lying.find(b"PK\1\2") + 24
         lying[length:length + 4] = (100).to_bytes(4, "little")  # says that the part is small
-        for said, content in ((backups.BROKEN, b""), (backups.BROKEN, b"%PDF-1.4"), (backups.BROKEN, self.first),
+        longer = bytearray(zipped({"office.db": self.first, "office.db-wal": b""}, zipfile.ZIP_STORED))
+        sizes = longer.find(b"PK\1\2") + 20
+        longer[sizes:sizes + 8] = 2 * (2 * len(longer)).to_bytes(4, "little")  # says that the part ends behind the zip
+        for said, content in (*((backups.BROKEN, each) for each in (b"", b"%PDF-1.4", self.first, bytes(longer))),
                               (backups.NO_OFFICE, zipped({"a.csv": b"number,paper\n"})),
                               (backups.SEVERAL, self.zip(**{"b.db": self.first})),
                               (backups.BROKEN, whole[:-40]), ("it has a password", bytes(locked)),
@@ -160,6 +163,7 @@ class TestRefused(Backups):
                               *((backups.BROKEN, each) for each in misleading({"office.db": self.first})),
                               (backups.BROKEN, zipped({"a": bytes(99)}, zipfile.ZIP_LZMA).replace(b"\xdf\xff\xff", b"xxx")),
                               (backups.BROKEN, whole[:len(whole) // 2] + b"x" * 9 + whole[len(whole) // 2 + 9:]),
+                              (backups.BROKEN, whole[:39] + b"\xff" * 9 + whole[48:]),  # where the data of office.db begin
                               (r"this copy is no good office \(bad office", self.zip(**{"office.db": self.bytes_of("other.db")})),
                               (r"this copy is no good office \(bad seat", zipped({
                                   "office.db": self.bytes_of("bad.db"), "office.db-wal": b""}))):
@@ -217,9 +221,10 @@ class TestPutBack(Backups):
             os.remove(self.path + ending)
         with open(self.path + "-wal", "wb") as old:  # of another office
             old.write(self.second or b"x" * 4000)
+        self.write("office.db-shm", b"of whoever has it open")
         with mock.patch("os.fsync", lambda file: synced.append(os.readlink(f"/proc/self/fd/{file}"))):
             self.assertEqual(self.put_back("", self.zip(**{"notebook/school.json": '"Hill"'})), (True, [], None))
-        self.assertFalse(os.path.exists(self.path + "-wal"))
+        self.assertFalse(os.path.exists(self.path + "-wal") or os.path.exists(self.path + "-shm"))
         for place in "/notebook/school.json", "/notebook", self.desk:
             self.assertTrue(any(path.endswith(place) for path in synced), place)
         self.assertEqual((snapshot.name_now(self.value), self.office("check")), (before, "good\n"))

@@ -388,6 +388,14 @@ class Log(Beside):
         self.assertEqual({line[0] for line in self.log()}, {"decide 0001051 HA1 refused"})
 
 
+    def test_when_a_hall_was_closed(self):
+        """A list of steps has a line for itself beside those of its steps; an office that did not come takes no place."""
+        for command, status, closed in (("close-hall MON-AM GYM", 1, []), ("close-hall MON-AM GYM", 0, [("MON-AM", "GYM")]),
+                                        ("close-hall MON-AM LIB, import openings for MON-AM R14", 0, [("MON-AM", "GYM")]),
+                                        ("init", 1, [("MON-AM", "GYM")]), ("init", 0, [])):
+            logbook.write(self.value, [command], status, "")
+            self.assertEqual([*logbook.closings(self.value)], closed, command)
+
     def test_what_cannot_be_said_in_the_log_is_said_at_once(self):
         for fault in (OSError(28, "No space left on device"), beside.Strange("log is a link, which is not followed")):
             with mock.patch("exam_desk.logbook.write", side_effect=fault):

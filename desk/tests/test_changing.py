@@ -149,7 +149,8 @@ class Lists(Changing):
 
     def test_one_that_is_refused_while_the_second_file_has_changes(self):
         """The program takes these into the first file, so its bytes are others; yet nothing is changed."""
-        for place, steps in enumerate(([STEPS[0], STEPS[0]], [Step(("reinstate", "0001000", "MA-1"))])):
+        for place, steps in enumerate(([STEPS[0], STEPS[0]], [Step(("reinstate", "0001000", "MA-1"))],
+                                        [Step(("import", "entries", "/none.csv"))])):
             with contextlib.closing(sqlite3.connect(self.path)) as file:
                 file.execute(APPEAL, (f"HA{place}", 1))
                 file.commit()
@@ -203,6 +204,10 @@ class Lists(Changing):
         self.write("office.db", b"rubbish" * 1000)
         with self.assertRaisesRegex(Trouble, "cannot be read, so nothing is changed"):
             changing.carry_out(self.value, STEPS)
+        self.assertEqual((self.kept(), self.log()), ([], []))
+
+    def test_a_day_that_is_none(self):
+        self.assertIn("TODAY is 2027-13-01; write a date", self.refused("withdraw", "0001000", "MA-1", TODAY="2027-13-01"))
         self.assertEqual((self.kept(), self.log()), ([], []))
 
     def test_no_office(self):
@@ -335,18 +340,19 @@ class Full(Changing):
     def test_a_signal_while_a_copy_is_put_back(self):
         """It waits until the copy is in its place: steps that are refused leave nothing, and `back` is done."""
         def replace(*paths, real=os.replace):
-            signal.raise_signal(signal.SIGINT)
+            signal.raise_signal(number)
             real(*paths)
-        self.addCleanup(signal.signal, signal.SIGINT, signal.signal(signal.SIGINT, lambda *_: sys.exit(130)))
         before = self.state()
-        with mock.patch("os.replace", replace), self.assertRaises(SystemExit):
-            changing.carry_out(self.value, [STEPS[0], STEPS[0]])
-        self.assertEqual((self.state(), self.kept(), self.said), (before, [], ["stopped: nothing is changed"]))
-        self.assertEqual(self.log()[-1][1:], ["1", "all is as before: withdraw 0001000 MA-1: refused 9"])
+        for number in (signal.SIGHUP, signal.SIGTERM, signal.SIGINT):
+            self.addCleanup(signal.signal, number, signal.signal(number, lambda *_: sys.exit(130)))
+            with mock.patch("os.replace", replace), self.assertRaises(SystemExit):
+                changing.carry_out(self.value, [STEPS[0], STEPS[0]])
+            self.assertEqual((self.state(), self.kept(), self.said.pop()), (before, [], "stopped: nothing is changed"))
+            self.assertEqual(self.log()[-1][1:], ["1", "all is as before: withdraw 0001000 MA-1: refused 9"])
         copy = changing.carry_out(self.value, STEPS[:1]).copy
         with mock.patch("os.replace", replace), self.assertRaises(SystemExit):
             changing.go_back(self.value, ["back", "1"], copy, lambda lines: True)
-        self.assertEqual((self.state(), self.said[1:], self.log()[-1][:2]), (
+        self.assertEqual((self.state(), self.said, self.log()[-1][:2]), (
             before, ["stopped: look whether it is done; `office back 1` takes it back then"], ["back 1", "0"]))
 
     @unittest.skipUnless(os.geteuid() == 0 and shutil.which("mount"), "a small disk needs root")

@@ -10,7 +10,7 @@ from unittest import mock
 import sample
 import big_files
 import random_files
-from exam_desk import checking, files, mistakes, snapshot
+from exam_desk import checking, files, mistakes, refusals, snapshot
 from exam_desk.office import Trouble
 
 TRIES, SEED = 150, 20261128
@@ -136,6 +136,16 @@ class Verdicts(sample.SampleSchool):
                     self.assertEqual(random_files.first_refusal(kind, text, mistakes.Known(connection)), said)
                     found, _ = mistakes.looked_through(kind, text, mistakes.Known(connection))
                     self.assertEqual(bool(found), said is not None, [*found])
+
+    def test_what_the_program_refuses_of_files_without_a_mistake(self):
+        """What the files before bring is known there: 257 halls are no mistake, and too many for one session."""
+        os.mkdir(os.path.join(self.folder, "many"))
+        for kind, row in ("halls", "H{},Hall,-\n"), ("openings", "MON-AM,H{},1,12:30,no\n"):
+            self.write(f"many/{kind}.csv", f"{','.join(files.HEADERS[kind])}\n{''.join(map(row.format, range(257)))}")
+        self.assertEqual(self.run_office("check-files", "many").stdout,
+                         f"openings.csv: {refusals.SENTENCES[20]}\n2 files, 1 mistake, 0 notes\n")
+        self.assertEqual(self.run_office("take", "many", "--yes").stderr.splitlines()[-3:],
+                         ["import openings for MON-AM: refused 20", f"  {refusals.SENTENCES[20]}", "office: nothing is changed"])
 
     def test_empty_codes_are_said_once_and_are_no_mistakes(self):
         """An import refuses the file all the same, and check-files ends as it does; `take --codes` takes it."""

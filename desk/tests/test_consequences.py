@@ -7,7 +7,7 @@ import unittest
 from unittest import mock
 
 import sample
-from exam_desk import beside, changing, copies, effects, telling
+from exam_desk import beside, changing, copies, effects, files, telling
 from exam_desk.office import Office
 from exam_desk.reading import Person, Sitting
 from exam_desk.sheets import papers
@@ -215,6 +215,8 @@ class Told(sample.SampleSchool):
             rows = file.read()
         os.remove(self.path)
         self.office("init")
+        path = str(self.examples / "sessions.csv")
+        self.assertEqual(self.office("what-if", "import", "sessions", path), "added 3 changed 0 same 0\n")
         for kind in sample.KINDS:
             text = rows if kind == "openings" else (self.examples / f"{kind}.csv").read_text("utf-8")
             lines = self.told("import", kind, self.write(f"{kind}.csv", text))
@@ -318,6 +320,32 @@ class Told(sample.SampleSchool):
         self.environment["TODAY"] = "2027-07-01"
         self.assertEqual(self.told("name", "0001051", "Another Name"), [])
 
+    def test_whom_a_change_of_a_session_that_is_over_meets(self):
+        """Somebody who misses another paper than before, though nobody sits otherwise; nobody who has another name."""
+        self.environment["TODAY"] = "2027-07-01"
+        said = "1 session that is over is changed: MON-PM of 2027-06-07 for 1 candidate"
+        entry = self.write("e.csv", "number,paper\n0001000,FR\n")
+        self.assertEqual(self.told("import", "entries", entry)[:2], [said, "1 has a new clash: MON-PM 0001000 Ada Lin"])
+        os.mkdir(os.path.join(self.folder, "both"))
+        self.write("both/papers.csv", "paper,title,session,minutes,requires\nMA-1,Sums,MON-AM,120,-\n")
+        self.write("both/candidates.csv", f"number,name,code\n{sample.NUMBER},Di Hill,{sample.CODE}\n")
+        would = self.office("what-if", "take", "both")
+        self.assertIn("MA-1 title Mathematics 1 -> Sums", would)
+        self.assertNotIn("over", would)
+
+    def test_most_without_a_desk_come_first(self):
+        path = self.write("o.csv", "session,hall,desks,until,reserved\nMON-AM,GYM,18,12:30,no\nMON-PM,GYM,1,16:30,no\n")
+        self.assertRegex(self.told("import", "openings", path)[-3],
+                         r"^\d+ without a desk .*: \d+ in MON-PM \(before 2\), \d in MON-AM \(before 2\)$")
+
+    def test_a_session_that_goes_again_has_no_absences(self):
+        for kind, row in ("sessions", "X,2027-06-07,09:00"), ("papers", "XP,X,X,60,-"), ("entries", f"{sample.NUMBER},XP"):
+            self.told("import", kind, self.write("x.csv", f"{','.join(files.HEADERS[kind])}\n{row}\n"))
+        self.environment["TODAY"] = "2027-06-07"
+        lines = self.told("back", "3", "--yes")
+        self.assertIn("leaves a session: X ", lines[0])
+        self.assertNotIn("NOTE", "".join(lines))
+
     def test_a_day_that_is_over_by_a_slip(self):
         """A year that was mistyped; and a whole office of last year, before it is imported."""
         path = self.write("s.csv", "session,date,start\nMON-AM,2026-06-07,09:00\n")
@@ -368,6 +396,7 @@ class Told(sample.SampleSchool):
         newest = copies.listed(self.value)[0]
         lines = effects.done(self.value, newest, lambda *_: None)
         self.assertTrue(lines[0].startswith("1 sits another paper: MON-AM 0001306 "), lines)
+        self.assertEqual(effects.place_of(self.value, f"{newest}-gone"), 3)  # it gave way to newer ones
 
     def test_no_memory(self):
         carried = changing.carry_out(self.value, [changing.Step(("withdraw", "0001000", "MA-1"))])

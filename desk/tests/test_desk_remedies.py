@@ -36,11 +36,11 @@ class TestWhatCouldHelp(SmallSchool):
         return found
 
     def test_a_hall_with_free_desks_closes_later(self):
-        """Who sits the long paper ends at 10:30. B has two free desks; C is closed."""
-        self.begin("A,Hall A,-\nB,Hall B,-\nC,Hall C,-\n", "S1,A,1,12:00,no\nS1,B,3,10:00,no\n",
+        """Who sits the long paper ends at 10:30. B has two free desks; 1X is closed, so it comes behind B."""
+        self.begin("1X,Hall X,-\nA,Hall A,-\nB,Hall B,-\n", "S1,A,1,12:00,no\nS1,B,3,10:00,no\n",
                    "0000001,LONG\n0000002,LONG\n0000003,SHORT\n")
         self.assertEqual(self.remedies(), [
-            ("Have B until 10:30", "1 of the 1"), ("Open C, Hall C, with 1 desk until 12:00", "1 of the 1"),
+            ("Have B until 10:30", "1 of the 1"), ("Open 1X, Hall X, with 1 desk until 12:00", "1 of the 1"),
             ("Have A with 2 desks, 1 more, more than it ever had", "1 of the 1")])
         self.assertIn("2 candidates = 1 desk + 1 without a desk", self.browser.words("/sessions/S1"))
 

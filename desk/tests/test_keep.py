@@ -13,7 +13,7 @@ import unittest
 from unittest import mock
 
 import sample
-from exam_desk import beside, keeping, turns
+from exam_desk import beside, keeping, refusals, turns
 from exam_desk.office import Trouble
 
 NUMBER = sample.NUMBER
@@ -171,7 +171,7 @@ class Ports(sample.SampleSchool):
         with socket.create_server(("127.0.0.1", 0)) as other:
             port = other.getsockname()[1]
             self.assertRegex(self.refused("keep", "start", str(port)),
-                             f": 127.0.0.1 {port} cannot be had: Address already in use\n$")
+                             f"/keep.log: 127.0.0.1 {port} cannot be had: Address already in use\n$")
 
 
 class Beginning(sample.SampleSchool):
@@ -241,6 +241,12 @@ class NewDay(sample.SampleSchool):
 
 
 class Lodged(sample.SampleSchool):
+    def test_what_keeps_serve_from_beginning_is_said(self):
+        """The file has a second name: rows can be read, and nothing can be lodged."""
+        os.link(self.path, f"{self.path}.link")
+        self.assertEqual(self.refused("lodge", NUMBER, "MON-AM", "hall", "PC1", ""),
+                         f"office: refused 23; {refusals.SENTENCES[23]}\n")
+
     def test_lodge_without_keep(self):
         self.assertEqual(self.office("lodge", NUMBER, "MON-AM", "arrangement", "screen+reader", "25", "asthma"),
                          f"{NUMBER} D1 open\n")

@@ -438,7 +438,7 @@ class Causes(sample.SampleSchool):
         for words, data in ((["withdraw", "0001000", "MA-1"], None), (["import", "halls", "h.csv"], b"hall,title,features\n")):
             number = 9 if data is None else 1
             self.assertEqual(refusals.explained(self.value, words, f"refused {number}", data),
-                             [f"  {refusals.SENTENCES[number]}"])
+                             [refusals.SENTENCES[number]])
 
 
 class Back(sample.SampleSchool):

@@ -184,7 +184,8 @@ class Starting(sample.SampleSchool):
             line = [sample.DESK / "office", "keep", "run", str(sample.free_port())]
             with subprocess.Popen(line, env=self.environment, stderr=subprocess.DEVNULL) as process:
                 sample.until(lambda: turns.keep_state(self.value) or process.poll() is not None)
-                turns.ask_keep_aside(self.value)
+                if state := turns.keep_state(self.value):
+                    turns.signal_keep(state, signal.SIGUSR1)
                 sample.until(lambda: process.poll() is not None or "serving" in self.text("keep.lock"))
                 process.terminate()
                 self.assertEqual(process.wait(), 0)
@@ -305,11 +306,9 @@ class Elsewhere(sample.SampleSchool):
 
     def test_no_signal_goes_to_a_group(self):
         for process in (0, -1, -42):
-            with (mock.patch("exam_desk.turns.keep_state", return_value={"pid": process}),
-                  mock.patch("os.kill") as sent):
-                with self.assertRaises(Trouble):
-                    turns.ask_keep_aside(self.value)
-                sent.assert_not_called()
+            with mock.patch("os.kill") as sent, self.assertRaises(Trouble):
+                turns.signal_keep({"pid": process}, signal.SIGUSR1)
+            sent.assert_not_called()
 
     @unittest.skipUnless(shutil.which("unshare") and os.geteuid() == 0, "a namespace needs root")
     def test_a_command_in_another_namespace(self):
@@ -330,7 +329,7 @@ class Turns(sample.SampleSchool):
         with turns.lock_file(self.value, "office.lock") as lock, mock.patch("exam_desk.turns.PATIENCE", 0.1):
             self.assertTrue(turns.try_lock(lock))
             for state, who in ((None, r"the program \(a command that began it was killed\)"),
-                               ({"pid": 7}, r"`keep` \(it does not step aside: \{'pid': 7\}\)")):
+                               ({"pid": 7}, r"`keep` \(process 7 does not step aside\)")):
                 with (mock.patch("exam_desk.turns.keep_state", return_value=state), mock.patch("os.kill") as asked,
                       self.assertRaisesRegex(Trouble, f"^{who} has the office, and 0.1 seconds are over: try again")):
                     with turns.alone(self.value, ["check"]):

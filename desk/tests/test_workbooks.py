@@ -549,6 +549,11 @@ class Commands(sample.SampleSchool):
             self.assertEqual(status, done.returncode, done.stdout)
         self.assertIn("has a date too, 2027-06-08, which is not that of the session", done.stdout)
         self.assertEqual([["MON-AM", "GYM", "20", "12:30", "no"]], self.rows("new0", "openings"))
+        self.write("columns.toml", '[openings]\nsession = { always = "MON-AM" }\n')
+        book = rawbook.xlsx(cases.sheet("Openings", cases.OPENINGS[1:], ["GYM", 20, ("n", "46545.520833333336", rawbook.TIME), "no"]))
+        pathlib.Path(self.folder, "b.xlsx").write_bytes(book)
+        self.office("read", "b.xlsx", "fixed", "--columns", "columns.toml")
+        self.assertEqual(self.rows("new0", "openings"), self.rows("fixed", "openings"))
 
 
 if __name__ == "__main__":
