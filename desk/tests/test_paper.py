@@ -57,6 +57,7 @@ class Papers(sample.SampleSchool):
         self.assertIn("desk&nbsp;1<", self.office("slips", "--desks", "MON-AM"))
         self.assertEqual(*(self.office("slips", "--only", number, TODAY="2027-05-01 08:15")
                            for number in ("1051", "0001051")))
+        self.assertEqual(self.office("slips", "--only", "1051", "--only", "0001051").count("<div class=slip>"), 1)
         self.assertIn("the office has no candidate 9999999", self.refused("slips", "--only", "9999999"))
         self.assertIn("0001000 sits nothing in TUE-AM", self.refused("slips", "--only", "1000", "TUE-AM"))
         for wrong in ("x1051", "00001051", "000", ""):
