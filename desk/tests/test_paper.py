@@ -216,6 +216,10 @@ class Papers(sample.SampleSchool):
                 self.assertNotRegex(done.stdout + done.stderr, "<img>|<script>|[\x80-\x9f]|Traceback")
                 if done.returncode:
                     self.assertRegex(done.stderr, "^office: [^\n]*\n$", words)
+        shutil.copy2(whole, self.path)
+        self.change("UPDATE seat SET hall = 'R14' WHERE session = 'MON-AM'")  # which is not open then
+        for words in (["doors", "MON-AM"], ["session-page", "MON-AM"], ["why", "MON-AM"]):
+            self.assertIn("there are rows that no office has (table seat)", self.refused(*words))
 
     def browse(self, name, text, *options):
         """The path of a page, and what a browser prints of it."""

@@ -1,7 +1,7 @@
 """One page of a session: halls, shortage, who sits where, clashes and appeals."""
 from markupsafe import Markup
 
-from exam_desk import appeals, facts, lists, reasons
+from exam_desk import appeals, facts, reasons
 from exam_desk.facts import Opening, session_row
 from exam_desk.lists import count
 from exam_desk.reading import Member, Reading
@@ -33,8 +33,7 @@ class Page:
         self.reading, self.papers = reading, pages.paper_names(reading.rows, pages.CODE)
         self.head = session_row(reading.rows, session)
         self.reasons, self.shortage = reasons.compared(reading, session)
-        self.openings, self.members = self.reasons.openings, self.reasons.members
-        self.seated = {opening.hall: lists.by_desk(self.members, opening.hall) for opening in self.openings}
+        self.openings, self.members, self.seated = self.reasons.openings, self.reasons.members, self.reasons.seated
         self.unseated = self.reasons.unseated()
         self.clashes = reading.clashes(session)
         self.appeals = reading.rows.execute(
