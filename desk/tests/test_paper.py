@@ -147,6 +147,28 @@ class Papers(sample.SampleSchool):
                 drawn.append(re.findall(r"<ol>(.*?)</ol>", text))
         self.assertEqual([[chips.count("<li>") for chips in lists] for lists in drawn], [[2, 2], [0, 2]])
 
+    def test_halls_and_appeals_of_a_session_page(self):
+        """R14 closes before the session begins, so nobody can have its two desks; LIB alone is on the printed sheet."""
+        self.assertIn("\nhalls 1 desks 2\nhall LIB ", self.office("shortage", "TUE-AM"))
+        self.office("import", "openings", self.write(
+            "openings.csv", "session,hall,desks,until,reserved\nTUE-AM,R14,2,08:30,yes\n"))
+        for number, hall in (("0001051", "AULA"), ("0001731", "GYM")):
+            self.office("lodge", number, "TUE-AM", "hall", hall, "a draught")
+        self.run_office("withdraw", "0001051", "PH-1")
+        text = self.office("session-page", "TUE-AM")
+        self.assertIn("47 candidates: 45 seated, 2 without a desk. 6 halls with 54 desks, 9 free.", text)
+        self.assertEqual(re.findall(r"#hall-(\w+)'>[^\n]*in the shortage", text), ["LIB"])
+        self.assertEqual(re.findall(r"<li>(\w+: \d+ of \d+ desks free)", text), [
+            "AULA: 1 of 16 desks free", "GYM: 0 of 24 desks free", "PC1: 8 of 10 desks free", "R12: 0 of 2 desks free",
+            "R14: 0 of 2 desks free"])
+        self.assertEqual(re.findall(r"viewBox='0 0 (\d+) 1'[^\n]*'(\d+) desks? taken, (\d+) free'><rect class=taken "
+                                    r"width=(\d+) height=1 /><rect class=free x=(\d+) width=(\d+) height", text),
+                         [("24", taken, free, taken, taken, free) for taken, free in (
+                             ("15", "1"), ("24", "0"), ("2", "0"), ("2", "8"), ("2", "0"), ("0", "0"))])
+        appeals = [row for row in self.rows("session-page", "TUE-AM") if row[-1] == "open"]
+        self.assertEqual([(row[0], "no longer in this session" in row[1], *row[3:5]) for row in appeals],
+                         [("0001051", True, "hall", "AULA"), ("0001731", False, "hall", "GYM")])
+
     def test_signatures(self):
         """By desk, without what the invigilators' sheet has besides: no finish, as it tells of extra time."""
         rows, sheet = ([row for row in self.rows(name, "MON-AM", "LIB") if row[0].isdigit()]
