@@ -173,7 +173,8 @@ class Lists(sample.SampleSchool):
         self.assertIn("0001051 Di Berg, access code VMGNZGEDP9\n", self.office("look", "0001051", "--codes"))
         names = re.findall(r"^\d{7} (.*)", self.office("look", "SORENSEN"), re.MULTILINE)
         self.assertEqual(names, ["Frida Sørensen", "Jonas Sørensen", "Petra Sørensen"])
-        self.assertIn("no candidate has nobody", self.refused("look", "nobody"))
+        for asked in ("nobody", "00001051", "9" * 30):
+            self.assertEqual(self.refused("look", asked), f"office: no candidate has {asked} as number or in the name\n")
         for numbers, is_short in (("1000 AND 1153", False), ("1000 AND 1170", True)):  # ten, and one more
             self.change(f"UPDATE candidate SET name = 'Quillon' WHERE number BETWEEN {numbers}")
             said = self.office("look", "quillon")

@@ -213,6 +213,7 @@ class OutOfDate(sample.SampleSchool):
                 ("hall title", first.format("hall", "title = 'Great hall'", "code = 'LIB'"), {}),
                 ("desks", first.format("opening", "desks = 17", "session = 'MON-AM' AND hall = 'AULA'"), {}),
                 ("open until", first.format("opening", "until = 799", "session = 'MON-AM' AND hall = 'AULA'"), {}),
+                ("elsewhere", first.format("session", "start = 600", "code = 'MON-PM'"), {}),
                 ("rows", "", {}), ("school", "", {})):
             with self.subTest(what), Reading(office) as reading:
                 pages, then, shared = self.printed(reading)
