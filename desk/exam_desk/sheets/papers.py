@@ -219,7 +219,7 @@ def of_door(of: Session, titles: Mapping[str, Markup], opening: facts.Opening, m
 
 
 def row_of(of: Session, member: Member, paper: Markup, is_noted: bool, arranged: list[str]) -> Row:
-    """The row of a candidate, as high as its highest cell; a signature has room beside the desk and the line below it."""
+    """The row of a candidate, as high as its highest cell. A signature has room beside a desk with a line below it."""
     finish, line = member.sitting.finish, of.printed.get(member.number)
     below = [f"was {line.finish}"] if line and line.finish not in ("", finish) else []
     until = joined([finish, *(html("<small>{}</small>", each) for each in below + [LATER] * is_noted)], "<br>")
