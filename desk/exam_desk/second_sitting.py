@@ -130,8 +130,10 @@ def first_papers(rows: Rows, second: sqlite3.Row) -> list[sqlite3.Row]:
 
 def pairs(rows: Rows) -> list[tuple[sqlite3.Row, sqlite3.Row]]:
     """Each paper that may be made of another for second sittings, behind that one."""
+    codes = [code for code, in rows.execute("SELECT code FROM session")]
+    later = {each for each in codes if each[-1:].isdecimal() for code in codes if is_numbered(each, code)}
     return [(first, second) for second in rows.execute(f"{PAPERS} ORDER BY day, start, paper.code").fetchall()
-            for first in first_papers(rows, second)]
+            if second["session"] in later for first in first_papers(rows, second)]
 
 
 def elsewhere(reading: Reading, members: Iterable[Member]) -> dict[str, list[str]]:

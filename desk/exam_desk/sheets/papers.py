@@ -179,11 +179,10 @@ def counts(of: Session) -> Iterator[Markup]:
 
 def signatures(of: Session) -> Iterator[Markup]:
     """For candidates to sign, by desk, with nothing that others need not know."""
-    papers = paper_names(of.rows, CODE)
-    for opening, there in of.halls:
+    papers, halls = paper_names(of.rows, CODE), hall_names(of.rows)
+    for (hall, *_), there in of.halls:
         rows = [[sits.desk, number, text(name), papers[sits.paper], ""] for number, name, sits in there]
-        yield table(opening.hall, SIGNED, rows, html("{}<br><h2>{}</h2> ({})", of.heading, text(opening.title),
-                                                     opening.hall))
+        yield table(hall, SIGNED, rows, html("{}<br><h2>{}</h2>", of.heading, halls[hall]))
 
 
 def doors(of: Session) -> Iterator[Markup]:
