@@ -70,9 +70,9 @@ class There(SecondSitting):
         self.enter("halls", "hall,title,features\nR15,Room 15,-\n")
         self.office("open-hall", "MON-AM-2", "R15", "1", "24:00")
         lost = self.run_office("close-hall", "MON-AM-2", "R14")
-        self.assertIn("1 session has printed papers that are out of date: MON-AM (doors of R14)\n", lost.stderr)
+        self.assertIn("1 session has printed papers that are out of date: MON-AM (doors of R14; slips)\n", lost.stderr)
         self.assertIn("elsewhere stay with them: MA-1 at 10:30 in R14 -> stay with them: MA-1 at 10:30 in R15\n"
-                      "to print again: doors of R14\n", self.office("printed", "MON-AM", "--look"))
+                      "to print again: doors of R14; slips\n", self.office("printed", "MON-AM", "--look"))
         listed = self.run_office("absent", "MON-AM", TODAY="2027-06-07")
         self.assertIn("NOTE MA-1 is sat in MON-AM-2 too: `office absent MON-AM-2` lists it\n", listed.stderr)
 
