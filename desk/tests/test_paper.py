@@ -127,6 +127,9 @@ class Papers(sample.SampleSchool):
             ["1", "0001153", "Jana Roe", "LAT", "10:53", "25 % extra time, screen", ""]])
         self.assertEqual([row[0].split(": ____")[:4] for row in rows[8:]],
                          [["Present", " \N{EN SPACE} Absent", " \N{EN SPACE} Scripts", " \N{EN SPACE} Collected by"]])
+        for session, hall, papers in (("TUE-AM", "LIB", f"CH-1 Chemistry: 1{left}|PH-1 Physics: 1{left}"),
+                                      ("MON-AM", "PC1", "CS-1 Computer science: 10")):  # which is what is present
+            self.assertTrue(self.rows("doors", session, hall)[0][0].endswith(f"|{hall}, page 1 of 1|{papers}"))
         self.assertIn("nobody sits in PC9 in MON-AM; somebody sits in AULA, GYM, LIB, PC1, R12\n",
                       self.refused("doors", "MON-AM", "PC9"))
 
