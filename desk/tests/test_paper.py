@@ -291,6 +291,25 @@ class Papers(sample.SampleSchool):
             text = subprocess.run(["pdftotext", "-raw", f"{page}.pdf", "-"], check=True, capture_output=True).stdout
             self.assertEqual(text.count(b"\f"), html.count("<div class=sheet>"), (title, school, name, note, hall))
 
+    def test_long_texts_beside_short_ones(self):
+        """The name of the school beside a heading of one paper, and what is printed of the desk in a row."""
+        if not shutil.which("pdftotext"):
+            self.skipTest("there is no pdftotext")
+        self.office("open-hall", "MON-AM", "GYM", "60", "12:30")
+        self.run_office("close-hall", "MON-AM", "AULA")
+        self.office("import", "entries", self.write("e.csv", "number,paper\n" + "".join(
+            f"{number:07},MA-1\n" for number in range(1000, 2020, 17))))
+        for paper in ("MA-2", "LAT"):
+            self.run_office("withdraw", "--list", self.write(f"{paper}.csv", "number,paper\n" + "".join(
+                f"{number:07},{paper}\n" for number in range(1000, 2020, 17))))
+        self.office("school", "W" * 80)
+        for printed in ({}, {f"{number:07}": ["WWWWWWWW", 2000] for number in range(1000, 2020, 17)}):
+            notebook.keep(self.value, "printed.MON-AM", lambda _, printed=printed: printed)
+            page, _ = self.browse("doors", html := self.office("doors", "MON-AM", "GYM"), "--print-to-pdf={}.pdf")
+            text = subprocess.run(["pdftotext", "-raw", f"{page}.pdf", "-"], check=True, capture_output=True).stdout
+            self.assertEqual(html.count("<td class=sign>"), 40)
+            self.assertEqual(text.count(b"\f"), html.count("<div class=sheet>"))
+
     def test_the_hall_stands_on_each_page(self):
         if not shutil.which("pdftotext"):
             self.skipTest("there is no pdftotext")
