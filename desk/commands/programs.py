@@ -297,8 +297,8 @@ def said(step: Step, ran: Ran) -> int:
         lines = Answered(step, ran).explained(command.office())
     elif ran.status == 2:
         lines = usage(*step.words)
-    elif ran.status > 128:
-        lines = [f"  {ran.ending()}; {refusals.WHOLE_OR_NOT}"]
+    elif ending := ran.ending():
+        lines = [f"  {ending}; {refusals.WHOLE_OR_NOT}"]
     sys.stderr.write(ran.complaint)
     command.complain(lines)
     return ran.status
