@@ -386,6 +386,15 @@ class LeftBehind(SecondSitting):
         self.assertTrue(said.startswith("HINWEIS: zweite Sitzungen bleiben"), said)
 
 
+class LeftBehind(SecondSitting):
+    def test_it_is_named_while_somebody_sits_it(self):
+        for words, minutes, is_said in (([*ONE, "--yes"], 110, True), ([*ONE[:2], "--undo", "--yes"], 115, False)):
+            self.assertEqual(self.run_office("second-sitting", *words).returncode, 0)
+            said = self.run_office("import", "papers", self.write(
+                "p.csv", f"paper,title,session,minutes,requires\nMA-1,Mathematics 1,MON-AM,{minutes},-\n")).stderr
+            self.assertEqual("second sittings stay as they are, though their papers are changed: MA-1-2;" in said, is_said)
+
+
 class Pairs(SecondSitting):
     def test_names_and_how_many_share_a_pair(self):
         pairs = re.findall(r"(?m)^(\d{7}) sits (\S+) +clash (\S+)$", self.office("clashes", "MON-AM"))
