@@ -361,6 +361,13 @@ class LeftBehind(SecondSitting):
         said = self.office("what-if", "import", kind, self.write(f"{kind}.csv", text))
         return [line for line in said.split("\n") if "second sitting" in line]
 
+    def test_it_is_named_while_somebody_sits_it(self):
+        for words, minutes, is_said in (([*ONE, "--yes"], 110, True), ([*ONE[:2], "--undo", "--yes"], 115, False)):
+            self.assertEqual(self.run_office("second-sitting", *words).returncode, 0)
+            said = self.run_office("import", "papers", self.write(
+                "p.csv", f"paper,title,session,minutes,requires\nMA-1,Mathematics 1,MON-AM,{minutes},-\n")).stderr
+            self.assertEqual("second sittings stay as they are, though their papers are changed: MA-1-2;" in said, is_said)
+
     def test_a_paper_or_its_session_is_changed(self):
         said = [str(second_sitting.STAYS).format(papers="MA-1-2")]
         self.second(*ONE)
@@ -384,15 +391,6 @@ class LeftBehind(SecondSitting):
             said = wording.said(second_sitting.Said(second_sitting.STAYS, {"papers": ["A-2", "<b>"]}))
         self.assertIn("<bdi>A-2</bdi>, <bdi>&lt;b&gt;</bdi>", said)
         self.assertTrue(said.startswith("HINWEIS: zweite Sitzungen bleiben"), said)
-
-
-class LeftBehind(SecondSitting):
-    def test_it_is_named_while_somebody_sits_it(self):
-        for words, minutes, is_said in (([*ONE, "--yes"], 110, True), ([*ONE[:2], "--undo", "--yes"], 115, False)):
-            self.assertEqual(self.run_office("second-sitting", *words).returncode, 0)
-            said = self.run_office("import", "papers", self.write(
-                "p.csv", f"paper,title,session,minutes,requires\nMA-1,Mathematics 1,MON-AM,{minutes},-\n")).stderr
-            self.assertEqual("second sittings stay as they are, though their papers are changed: MA-1-2;" in said, is_said)
 
 
 class Pairs(SecondSitting):
