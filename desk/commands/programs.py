@@ -301,8 +301,8 @@ def said(step: Step, ran: Ran, office: Office | None = None) -> int:
         lines = below(Answered(step, ran, office or command.office()))
     elif ran.status == 2:
         lines = usage(*step.words)
-    elif ran.status > 128:
-        lines = [f"  {ran.ending()}; {refusals.WHOLE_OR_NOT}"]
+    elif ending := ran.ending():
+        lines = [f"  {ending}; {refusals.WHOLE_OR_NOT}"]
     sys.stderr.write(ran.complaint)
     command.complain(lines)
     return ran.status

@@ -50,12 +50,14 @@ def found(reading: Reading, asked: Collection[str] = (), number: str | None = No
     """The overlaps of these sessions with any others, otherwise all, by day and start; of one candidate those of the
     sessions in which they sit, as far as they or their halls are in both."""
     own, doubtful = reading.all_of(number) if number else {}, list[Doubtful]()
-    reading.rows.index_entries()
+    if not number:
+        reading.rows.index_entries()
     for pair in pairs(reading, asked or own) if own or not number else []:
-        mine = {own[code].hall for code in (pair.early, pair.late) if code in own}
-        there = reading.rows.execute(f"{IN_BOTH} UNION ALL {IN_HALLS}", {**pair._asdict(), "longest": LONGEST})
-        doubtful += [(pair, hall, each) for hall, each in there
-                     if not number or (hall in mine if hall else each == number)]
+        mine = [own[code].hall for code in (pair.early, pair.late) if code in own]
+        there = reading.rows.execute(IN_HALLS if number else f"{IN_BOTH} UNION ALL {IN_HALLS}",
+                                     {**pair._asdict(), "longest": LONGEST})
+        doubtful += [(pair, hall, each) for hall, each in there if not number or hall in mine]
+        doubtful += [(pair, None, number)] if number and len(mine) == 2 else []
     return certain(reading, doubtful)
 
 

@@ -55,8 +55,7 @@ class Reasons:
             "SELECT code, requires FROM paper WHERE session = ?", [session])}
         self.barred = {(f"{number:07}", hall) for number, hall in reading.rows.execute(GRANTED_HALLS, [session])}
         self.found: dict[tuple[object, ...], list[str]] = {}  # obstacles
-        self.taken: dict[str, list[str]] = defaultdict(list, {  # the numbers in each hall, by desk
-            each.hall: [member.number for member in by_desk(self.members, each.hall)] for each in self.openings})
+        self.seated = {each.hall: by_desk(self.members, each.hall) for each in self.openings}
 
     def unseated(self) -> list[Member]:
         return [member for member in self.members if member.sitting.hall is None]
@@ -91,7 +90,7 @@ class Reasons:
             return f"sits here, at desk {member.sitting.desk}"
         if obstacles := self.obstacles(member, opening):
             return ", ".join(obstacles)
-        taken = self.taken[opening.hall]
+        taken = [each.number for each in self.seated[opening.hall]]
         if len(taken) < opening.desks:
             return f"suits, {opening.desks - len(taken)} of {opening.desks} desks are free"
         return f"suits, but {len(taken)} of {opening.desks} desks are taken: {few(taken, MOST_NAMED)}"
@@ -114,7 +113,7 @@ class Reasons:
         for member in asked:
             groups["+".join(self.needs(member)) or "-"].append(member.number)
             for opening in self.openings:
-                full = "all desks are taken" if len(self.taken[opening.hall]) >= opening.desks else "desks are free"
+                full = "all desks are taken" if len(self.seated[opening.hall]) >= opening.desks else "desks are free"
                 for found in self.obstacles(member, opening) or [f"suits, but {full}"]:
                     reason = TOO_EARLY if found.startswith(CLOSES) else found
                     who[reason].add(member.number)

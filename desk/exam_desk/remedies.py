@@ -47,7 +47,7 @@ def remedies(rows: Rows, why: Reasons, sheet: Shortage) -> Iterator[Remedy]:
     helped = sheet.unseated - lacking(rows, why).total()
     usual = mode(sorted((each.until for each in why.openings), reverse=True) or [0])  # of several the latest
     for code, title, mask in rows.execute("SELECT code, title, features FROM hall ORDER BY code"):
-        now, taken = opened.get(code), len(why.taken[code])
+        now, taken = opened.get(code), len(why.seated.get(code, ()))
         base = now or Opening(code, title, mask, 0, usual, False)
         for reserved in dict.fromkeys([base.reserved, False]):
             widest = base._replace(until=MIDNIGHT, reserved=reserved)

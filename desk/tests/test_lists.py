@@ -173,7 +173,8 @@ class Lists(sample.SampleSchool):
         self.assertIn("0001051 Di Berg, access code VMGNZGEDP9\n", self.office("look", "0001051", "--codes"))
         names = re.findall(r"^\d{7} (.*)", self.office("look", "SORENSEN"), re.MULTILINE)
         self.assertEqual(names, ["Frida Sørensen", "Jonas Sørensen", "Petra Sørensen"])
-        self.assertIn("no candidate has nobody", self.refused("look", "nobody"))
+        for asked in ("nobody", "00001051", "9" * 30):
+            self.assertEqual(self.refused("look", asked), f"office: no candidate has {asked} as number or in the name\n")
         for numbers, is_short in (("1000 AND 1153", False), ("1000 AND 1170", True)):  # ten, and one more
             self.change(f"UPDATE candidate SET name = 'Quillon' WHERE number BETWEEN {numbers}")
             said = self.office("look", "quillon")
@@ -247,6 +248,9 @@ class Lists(sample.SampleSchool):
         with mock.patch("secrets.choice", side_effect="B" * 10 + "C" * 10 + "D" * 10):  # in the file, in the office, free
             found, _ = coding.filled([["0000001", "Ada", ""], ["0000002", "Bo", "B" * 10]], {"0000002": "D" * 10, "0000003": "C" * 10})
         self.assertEqual(found[0][2], "D" * 10)
+        with mock.patch("secrets.choice", side_effect="B" * 20 + "C" * 10):  # the second is made again
+            found, _ = coding.filled([["0000001", "Ada", ""], ["0000002", "Bo", ""]], {})
+        self.assertEqual([row[2] for row in found], ["B" * 10, "C" * 10])
 
     def test_rows_without_codes_are_those_that_an_import_takes(self):
         header, check = "line 1 must be: number,name,code", "line 2 is wrong; `office check-files` says how"

@@ -57,6 +57,7 @@ class Papers(sample.SampleSchool):
         self.assertIn("desk&nbsp;1<", self.office("slips", "--desks", "MON-AM"))
         self.assertEqual(*(self.office("slips", "--only", number, TODAY="2027-05-01 08:15")
                            for number in ("1051", "0001051")))
+        self.assertEqual(self.office("slips", "--only", "1051", "--only", "0001051").count("<div class=slip>"), 1)
         self.assertIn("the office has no candidate 9999999", self.refused("slips", "--only", "9999999"))
         self.assertIn("0001000 sits nothing in TUE-AM", self.refused("slips", "--only", "1000", "TUE-AM"))
         for wrong in ("x1051", "00001051", "000", ""):
@@ -126,6 +127,9 @@ class Papers(sample.SampleSchool):
             ["1", "0001153", "Jana Roe", "LAT", "10:53", "25 % extra time, screen", ""]])
         self.assertEqual([row[0].split(": ____")[:4] for row in rows[8:]],
                          [["Present", " \N{EN SPACE} Absent", " \N{EN SPACE} Scripts", " \N{EN SPACE} Collected by"]])
+        for session, hall, papers in (("TUE-AM", "LIB", f"CH-1 Chemistry: 1{left}|PH-1 Physics: 1{left}"),
+                                      ("MON-AM", "PC1", "CS-1 Computer science: 10")):  # which is what is present
+            self.assertTrue(self.rows("doors", session, hall)[0][0].endswith(f"|{hall}, page 1 of 1|{papers}"))
         self.assertIn("nobody sits in PC9 in MON-AM; somebody sits in AULA, GYM, LIB, PC1, R12\n",
                       self.refused("doors", "MON-AM", "PC9"))
 
@@ -145,6 +149,28 @@ class Papers(sample.SampleSchool):
                 text = session_page.Page(reading, "TUE-AM").document().partition("<div class=cards>")[2]
                 drawn.append(re.findall(r"<ol>(.*?)</ol>", text))
         self.assertEqual([[chips.count("<li>") for chips in lists] for lists in drawn], [[2, 2], [0, 2]])
+
+    def test_halls_and_appeals_of_a_session_page(self):
+        """R14 closes before the session begins, so nobody can have its two desks; LIB alone is on the printed sheet."""
+        self.assertIn("\nhalls 1 desks 2\nhall LIB ", self.office("shortage", "TUE-AM"))
+        self.office("import", "openings", self.write(
+            "openings.csv", "session,hall,desks,until,reserved\nTUE-AM,R14,2,08:30,yes\n"))
+        for number, hall in (("0001051", "AULA"), ("0001731", "GYM")):
+            self.office("lodge", number, "TUE-AM", "hall", hall, "a draught")
+        self.run_office("withdraw", "0001051", "PH-1")
+        text = self.office("session-page", "TUE-AM")
+        self.assertIn("47 candidates: 45 seated, 2 without a desk. 6 halls with 54 desks, 9 free.", text)
+        self.assertEqual(re.findall(r"#hall-(\w+)'>[^\n]*in the shortage", text), ["LIB"])
+        self.assertEqual(re.findall(r"<li>(\w+: \d+ of \d+ desks free)", text), [
+            "AULA: 1 of 16 desks free", "GYM: 0 of 24 desks free", "PC1: 8 of 10 desks free", "R12: 0 of 2 desks free",
+            "R14: 0 of 2 desks free"])
+        self.assertEqual(re.findall(r"viewBox='0 0 (\d+) 1'[^\n]*'(\d+) desks? taken, (\d+) free'><rect class=taken "
+                                    r"width=(\d+) height=1 /><rect class=free x=(\d+) width=(\d+) height", text),
+                         [("24", taken, free, taken, taken, free) for taken, free in (
+                             ("15", "1"), ("24", "0"), ("2", "0"), ("2", "8"), ("2", "0"), ("0", "0"))])
+        appeals = [row for row in self.rows("session-page", "TUE-AM") if row[-1] == "open"]
+        self.assertEqual([(row[0], "no longer in this session" in row[1], *row[3:5]) for row in appeals],
+                         [("0001051", True, "hall", "AULA"), ("0001731", False, "hall", "GYM")])
 
     def test_signatures(self):
         """By desk, without what the invigilators' sheet has besides: no finish, as it tells of extra time."""
@@ -215,6 +241,10 @@ class Papers(sample.SampleSchool):
                 self.assertNotRegex(done.stdout + done.stderr, "<img>|<script>|[\x80-\x9f]|Traceback")
                 if done.returncode:
                     self.assertRegex(done.stderr, "^office: [^\n]*\n$", words)
+        shutil.copy2(whole, self.path)
+        self.change("UPDATE seat SET hall = 'R14' WHERE session = 'MON-AM'")  # which is not open then
+        for words in (["doors", "MON-AM"], ["session-page", "MON-AM"], ["why", "MON-AM"]):
+            self.assertIn("there are rows that no office has (table seat)", self.refused(*words))
 
     def browse(self, name, text, *options):
         """The path of a page, and what a browser prints of it."""
@@ -257,8 +287,28 @@ class Papers(sample.SampleSchool):
             notebook.take_notes(self.value, dict.fromkeys(numbers, note))
             notebook.keep(self.value, "printed.MON-AM", lambda _: dict.fromkeys(numbers, [hall, 2000]))
             page, _ = self.browse("doors", html := self.office("doors", "MON-AM"), "--print-to-pdf={}.pdf")
+            self.assertNotIn("<small>was </small>", html)  # the finish that was printed is not known
             text = subprocess.run(["pdftotext", "-raw", f"{page}.pdf", "-"], check=True, capture_output=True).stdout
             self.assertEqual(text.count(b"\f"), html.count("<div class=sheet>"), (title, school, name, note, hall))
+
+    def test_long_texts_beside_short_ones(self):
+        """The name of the school beside a heading of one paper, and what is printed of the desk in a row."""
+        if not shutil.which("pdftotext"):
+            self.skipTest("there is no pdftotext")
+        self.office("open-hall", "MON-AM", "GYM", "60", "12:30")
+        self.run_office("close-hall", "MON-AM", "AULA")
+        self.office("import", "entries", self.write("e.csv", "number,paper\n" + "".join(
+            f"{number:07},MA-1\n" for number in range(1000, 2020, 17))))
+        for paper in ("MA-2", "LAT"):
+            self.run_office("withdraw", "--list", self.write(f"{paper}.csv", "number,paper\n" + "".join(
+                f"{number:07},{paper}\n" for number in range(1000, 2020, 17))))
+        self.office("school", "W" * 80)
+        for printed in ({}, {f"{number:07}": ["WWWWWWWW", 2000] for number in range(1000, 2020, 17)}):
+            notebook.keep(self.value, "printed.MON-AM", lambda _, printed=printed: printed)
+            page, _ = self.browse("doors", html := self.office("doors", "MON-AM", "GYM"), "--print-to-pdf={}.pdf")
+            text = subprocess.run(["pdftotext", "-raw", f"{page}.pdf", "-"], check=True, capture_output=True).stdout
+            self.assertEqual(html.count("<td class=sign>"), 40)
+            self.assertEqual(text.count(b"\f"), html.count("<div class=sheet>"))
 
     def test_the_hall_stands_on_each_page(self):
         if not shutil.which("pdftotext"):

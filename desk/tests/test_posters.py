@@ -101,7 +101,7 @@ class Posters(sample.SampleSchool):
         for number, name in written.items():
             self.change("UPDATE candidate SET name = ? WHERE number = ?", (name, int(number)))
         self.assertEqual(sorted(re.findall(r"\b0001\d{3}\b", self.page("poster", "MON-AM")[0])), sorted(written)[:3])
-        for number, name in zip(written, ("M\u0081ller", "M\u009bller", "M\u200eller", "Miller")):  # three are `M?ller`
+        for number, name in zip(written, ("M\u0081ller", "M\u009bller", "M\u200eller", "Mi\u0081ller")):  # three are `M?ller`
             self.change("UPDATE candidate SET name = ? WHERE number = ?", (name, int(number)))
         self.assertEqual(sorted(re.findall(r"\b0001\d{3}\b", self.page("poster", "MON-AM")[0])), sorted([*written][:3]))
 
@@ -213,6 +213,7 @@ class OutOfDate(sample.SampleSchool):
                 ("hall title", first.format("hall", "title = 'Great hall'", "code = 'LIB'"), {}),
                 ("desks", first.format("opening", "desks = 17", "session = 'MON-AM' AND hall = 'AULA'"), {}),
                 ("open until", first.format("opening", "until = 799", "session = 'MON-AM' AND hall = 'AULA'"), {}),
+                ("elsewhere", first.format("session", "start = 600", "code = 'MON-PM'"), {}),
                 ("rows", "", {}), ("school", "", {})):
             with self.subTest(what), Reading(office) as reading:
                 pages, then, shared = self.printed(reading)

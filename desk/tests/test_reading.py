@@ -12,7 +12,8 @@ from unittest import mock
 
 import sample
 
-from exam_desk import appeals, asking  # beside the tests' folder
+from exam_desk import appeals, asking, turns  # beside the tests' folder
+from exam_desk import reading as reading_module
 from exam_desk.reading import Reading, of_few
 from exam_desk.office import Trouble
 
@@ -51,6 +52,15 @@ class Readings(sample.SampleSchool):
             self.assertFalse(reading.is_current())
             with Reading(self.value) as other:
                 self.assertFalse(other.is_current())  # another change within the same tick would not be seen
+
+    def test_what_a_program_adds_to_the_second_file_is_seen(self):
+        self.withdraw()
+        time.sleep(0.1)
+        with Reading(self.value) as reading:
+            self.assertTrue(reading.is_current())
+            with open(self.path + "-wal", "ab") as file:
+                file.write(b"a lodging")
+            self.assertFalse(reading.is_current())
 
     def test_a_serve_that_is_killed_begins_anew(self):
         with Reading(self.value) as reading:
@@ -105,6 +115,13 @@ class Kept(sample.KeptSchool):
             member = of_few(self.value, lambda reading: reading.member("MON-AM", sample.NUMBER))
             self.assertEqual(member.sitting.hall, "PC1")
             self.assertIn("PC1 Computer room, desk 1", "".join(of_few(self.value, looked)))
+
+    def test_keep_that_does_not_serve_is_not_asked(self):
+        for said in ({"pid": os.getpid()}, {"pid": os.getpid(), "place": str(self.port), "state": "aside"}):
+            with (mock.patch.object(turns, "keep_state", lambda _, said=said: said),
+                  mock.patch.object(reading_module, "Server", side_effect=AssertionError("keep is asked"))):
+                member = of_few(self.value, lambda reading: reading.member("MON-AM", sample.NUMBER))
+            self.assertEqual(member.sitting.hall, "PC1")
 
     def test_rows_and_answers_are_of_one_moment(self):
         """An office that changes while it is read is read again."""

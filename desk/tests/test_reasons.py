@@ -1,5 +1,4 @@
 """Equal reasons of many candidates and halls stand together, and short enough to read."""
-import collections
 import itertools
 import re
 import unittest
@@ -24,7 +23,7 @@ def found(members, openings):
     reasons = Reasons.__new__(Reasons)
     reasons.session, reasons.members, reasons.openings = "S", members, openings
     reasons.required, reasons.barred = {}, {("0000000", "H000")}
-    reasons.taken, reasons.found = collections.defaultdict(list, {each.hall: ["9999999"] for each in openings}), {}
+    reasons.seated, reasons.found = {each.hall: [member(9999999, (), "12:00")] for each in openings}, {}
     return reasons
 
 
@@ -93,7 +92,6 @@ class InShort(unittest.TestCase):
         seated = member(1, (), "09:30")
         seated = seated._replace(sitting=seated.sitting._replace(hall="H001", desk=1))
         reasons = found([seated, member(2, (), "09:30")], [Opening("H001", "Hall", 0, 1, 600, False)])
-        reasons.taken["H001"] = ["0000001"]
         right = Shortage(1, 1, [("H001", 1)], ["0000001", "0000002"])
         self.assertEqual(list(reasons.faults(right)), [])
         for sheet, said in (

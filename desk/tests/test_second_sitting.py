@@ -70,9 +70,9 @@ class There(SecondSitting):
         self.enter("halls", "hall,title,features\nR15,Room 15,-\n")
         self.office("open-hall", "MON-AM-2", "R15", "1", "24:00")
         lost = self.run_office("close-hall", "MON-AM-2", "R14")
-        self.assertIn("1 session has printed papers that are out of date: MON-AM (doors of R14)\n", lost.stderr)
+        self.assertIn("1 session has printed papers that are out of date: MON-AM (doors of R14; slips)\n", lost.stderr)
         self.assertIn("elsewhere stay with them: MA-1 at 10:30 in R14 -> stay with them: MA-1 at 10:30 in R15\n"
-                      "to print again: doors of R14\n", self.office("printed", "MON-AM", "--look"))
+                      "to print again: doors of R14; slips\n", self.office("printed", "MON-AM", "--look"))
         listed = self.run_office("absent", "MON-AM", TODAY="2027-06-07")
         self.assertIn("NOTE MA-1 is sat in MON-AM-2 too: `office absent MON-AM-2` lists it\n", listed.stderr)
 
@@ -360,6 +360,13 @@ class LeftBehind(SecondSitting):
         """What is said of second sittings where a file were imported."""
         said = self.office("what-if", "import", kind, self.write(f"{kind}.csv", text))
         return [line for line in said.split("\n") if "second sitting" in line]
+
+    def test_it_is_named_while_somebody_sits_it(self):
+        for words, minutes, is_said in (([*ONE, "--yes"], 110, True), ([*ONE[:2], "--undo", "--yes"], 115, False)):
+            self.assertEqual(self.run_office("second-sitting", *words).returncode, 0)
+            said = self.run_office("import", "papers", self.write(
+                "p.csv", f"paper,title,session,minutes,requires\nMA-1,Mathematics 1,MON-AM,{minutes},-\n")).stderr
+            self.assertEqual("second sittings stay as they are, though their papers are changed: MA-1-2;" in said, is_said)
 
     def test_a_paper_or_its_session_is_changed(self):
         said = [str(second_sitting.STAYS).format(papers="MA-1-2")]

@@ -33,5 +33,5 @@ By name, in two columns, with the hall and the desk. Only namesakes have their n
     "counts": Paper("Copies of papers", "left, paper, finish, paper title, school: name", """\
 A row for each hall and paper, with the last finish and boxes to tick, then the sums by paper. Candidates without a desk
 have rows of their own at the end.""", by_hall=False),
-    "slips": Paper("Slips", "desk, name, paper, finish, needs, extra, misses, note, paper title, school: name",
-                   by_hall=False)}
+    "slips": Paper("Slips", "desk, name, paper, finish, needs, extra, misses, note, elsewhere, paper title, "
+                   "school: name", by_hall=False)}

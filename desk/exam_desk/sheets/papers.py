@@ -179,11 +179,10 @@ def counts(of: Session) -> Iterator[Markup]:
 
 def signatures(of: Session) -> Iterator[Markup]:
     """For candidates to sign, by desk, with nothing that others need not know."""
-    papers = paper_names(of.rows, CODE)
-    for opening, there in of.halls:
+    papers, halls = paper_names(of.rows, CODE), hall_names(of.rows)
+    for (hall, *_), there in of.halls:
         rows = [[sits.desk, number, text(name), papers[sits.paper], ""] for number, name, sits in there]
-        yield table(opening.hall, SIGNED, rows, html("{}<br><h2>{}</h2> ({})", of.heading, text(opening.title),
-                                                     opening.hall))
+        yield table(hall, SIGNED, rows, html("{}<br><h2>{}</h2>", of.heading, halls[hall]))
 
 
 def doors(of: Session) -> Iterator[Markup]:
@@ -219,7 +218,7 @@ def of_door(of: Session, titles: Mapping[str, Markup], opening: facts.Opening, m
 
 
 def row_of(of: Session, member: Member, paper: Markup, is_noted: bool, arranged: list[str]) -> Row:
-    """The row of a candidate, as high as its highest cell; a signature has room beside the desk and the line below it."""
+    """The row of a candidate, as high as its highest cell. A signature has room beside a desk with a line below it."""
     finish, line = member.sitting.finish, of.printed.get(member.number)
     below = [f"was {line.finish}"] if line and line.finish not in ("", finish) else []
     until = joined([finish, *(html("<small>{}</small>", each) for each in below + [LATER] * is_noted)], "<br>")

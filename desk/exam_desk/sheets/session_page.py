@@ -1,7 +1,7 @@
 """One page of a session: halls, shortage, who sits where, clashes and appeals."""
 from markupsafe import Markup
 
-from exam_desk import appeals, facts, lists, reasons
+from exam_desk import appeals, reasons
 from exam_desk.facts import Opening, session_row
 from exam_desk.lists import count
 from exam_desk.reading import Member, Reading
@@ -33,9 +33,10 @@ class Page:
         self.reading, self.papers = reading, pages.paper_names(reading.rows, pages.CODE)
         self.head = session_row(reading.rows, session)
         self.reasons, self.shortage = reasons.compared(reading, session)
-        self.openings, self.members = self.reasons.openings, self.reasons.members
-        self.seated = {opening.hall: lists.by_desk(self.members, opening.hall) for opening in self.openings}
+        self.openings, self.members, self.seated = self.reasons.openings, self.reasons.members, self.reasons.seated
         self.unseated = self.reasons.unseated()
+        self.free = {each.hall: each.desks - len(self.seated[each.hall]) if each.until > self.head["start"] else 0
+                     for each in self.openings}  # nobody can sit in a hall that closes before the session begins
         self.clashes = reading.clashes(session)
         self.appeals = reading.rows.execute(
             "SELECT appeal.*, name FROM appeal JOIN candidate ON candidate.number = appeal.number "
@@ -45,11 +46,11 @@ class Page:
     def document(self) -> str:
         """The whole page, in the order of SECTIONS."""
         code, day, start = self.head["code"], self.head["day"], clock(self.head["start"])
-        desks, people, lacking = facts.desks(self.reading.rows).get(code, 0), len(self.members), len(self.unseated)
+        people, lacking, free = len(self.members), len(self.unseated), sum(self.free.values())
         links = joined((html("<a href='#{}'>{}</a>", *each) for each in SECTIONS.items()), " ")
         when = pages.with_school(self.reading.office, f"{long_day(day)}, starts {start}")
         header = html(HEADER, code, when, count(people, "candidate"), people - lacking, lacking,
-                      count(len(self.openings), "hall"), count(desks, "desk"), desks - people + lacking, links)
+                      count(len(self.openings), "hall"), count(people - lacking + free, "desk"), free, links)
         parts = [self.halls_part(), self.shortage_part(),
                  html("<div class=columns>{}</div>", joined(map(self.hall_part, self.openings))),
                  self.clashes_part(), self.appeals_part()]
@@ -60,11 +61,10 @@ class Page:
         """The halls with their titles, in a second line whom each suits, and how many of its desks are taken."""
         widest, rows = max((each.desks for each in self.openings), default=1), []
         for each in self.openings:
-            taken = len(self.seated[each.hall])
+            taken, free = len(self.seated[each.hall]), self.free[each.hall]
             mark = Markup(" <span class=tag>in the shortage</span>") if each.hall in dict(self.shortage.halls) else ""
             details = [", ".join(features(each.features)) or "no features", f"until {clock(each.until)}",
                        *["only with needs or extra time"] * each.reserved]
-            free = each.desks - taken if each.until > self.head["start"] else 0
             rows.append([html("<a href='#hall-{0}'>{0}</a> {1}{2}<br><small>{3}</small>", each.hall, text(each.title),
                               mark, "; ".join(details)),
                          html(BAR, widest, count(taken, "desk"), free, taken), taken, free])
@@ -116,8 +116,8 @@ class Page:
                 for hall in halls]
         cards = [html(CARD, kind, title, html("<ol>{}</ol>", joined(map(chip, members))))
                  for kind, title, members in [*full, ("lacking", f"No desk: {len(self.unseated):,}", self.unseated)]]
-        others = joined(html("<li>{}: {} of {} free</li>", each.hall, each.desks - len(self.seated[each.hall]),
-                             count(each.desks, "desk")) for each in self.openings if each.hall not in halls)
+        others = joined(html("<li>{}: {} of {} free</li>", each.hall, self.free[each.hall], count(each.desks, "desk"))
+                        for each in self.openings if each.hall not in halls)
         if others:
             cards.append(html(CARD, "out", "Suit none of these candidates", html("<ul>{}</ul>", others)))
         return html("<div class=cards>{}</div>", joined(cards))

@@ -90,8 +90,8 @@ def slips_of(reading: Reading, choice: Choice) -> list[Slip]:
     """The slips in their order; whoever is in no group comes last. Raises `Trouble` as `page`."""
     codes = [head["code"] for head in facts.sessions(reading.rows, choice.sessions)]
     only = [*dict.fromkeys(choice.only)] or None
-    entered = dict.fromkeys(number for code in codes for number in facts.entered(reading.rows, code))
-    people = lists.by_name(map(reading.person, only or entered))
+    people = lists.by_name(map(reading.person, only or {
+        number for code in codes for number in facts.entered(reading.rows, code)}))
     reading.ask(people)
     clashes, notes = {code: reading.clashes(code, only) for code in codes}, notebook.notes(reading.office)
     starts = overlaps.starts(reading)

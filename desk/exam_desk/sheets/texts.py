@@ -87,8 +87,7 @@ def lodged(rows: Rows, number: int) -> Iterator[str]:
 
 def papers_at_once(reading: Reading, session: str) -> Iterator[str]:
     """Who has two papers at once, by pair of papers; the pairs of the session that most candidates share come first."""
-    missed = reading.clashes(session)
-    if missed:
+    if missed := reading.clashes(session):
         yield f"{session}: {lists.count(len(missed), 'candidate')} with two papers or more"
     pairs = sorted((member.sitting.paper, paper, member) for member in reading.members(session, missed)
                    for paper in missed[member.number])
