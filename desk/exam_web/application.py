@@ -50,9 +50,8 @@ def make(here: Desk) -> Flask:
     app.url_map.converters["int"] = Number
     wording.prepare(app)
     app.jinja_env.globals.update(
-        FEATURES=FEATURES, RUNNING=notebook.RUNNING, SHEETS=[*PAPERS],
-        has_handbook=office.HANDBOOK is not None, appeals=appeals, copy_key=proposals.copy_key,
-        last_day=appeals.last_day, tally=people_and_sittings, by_halls=on_paper.by_halls)
+        FEATURES=FEATURES, RUNNING=notebook.RUNNING, SHEETS=[*PAPERS], has_handbook=office.HANDBOOK is not None,
+        appeals=appeals, last_day=appeals.last_day, tally=people_and_sittings, by_halls=on_paper.by_halls)
     for screen in SCREENS:
         app.register_blueprint(screen)
     app.before_request(begin)
@@ -120,9 +119,8 @@ def listener(ports: Sequence[int]) -> socket.socket:
 
 def another_link(office: Office) -> str:
     """A new link to the desk that runs. Raises `Trouble` where none does."""
-    with turns.lock_file(office, LOCK) as lock:
-        if turns.try_lock(lock):
-            raise Trouble("no desk of this office runs: `office desk` opens one")
+    if not turns.is_taken(office, LOCK):
+        raise Trouble("no desk of this office runs: `office desk` opens one")
     return link_of_running(office)
 
 

@@ -195,7 +195,6 @@ def with_code(is_new: bool, values: Values) -> Step:
 
 
 def new_candidate(form: Form) -> Plan:
-    """Somebody whom the office does not know yet."""
     form_page: Page = ("candidates.find", {})
     values = checked(form_page, form, number="number", name="name")
     page: Page = ("candidates.page", {"number": int(values["number"])})

@@ -1,5 +1,6 @@
 """Who comes in at the desk in a browser, and what a page may do: each threat with a test."""
 import contextlib
+import fcntl
 import json
 import os
 import pathlib
@@ -49,16 +50,17 @@ for seconds in (5 * 3600, 5 * 3600, 8 * 3600 + 1):
     found.append(len(here.visits))
 print(*found)
 """
-FULL = MAKE + """
-import errno
+FAULTS = MAKE + """
+import errno, os
 app.extensions['guard'].visits = {guard.digest('secret'): guard.Visit('ab', 'x')}
 client = app.test_client()
 client.set_cookie('localhost', 'desk', 'secret')
-def full():
-    raise OSError(errno.ENOSPC, 'No space left on device', '/there')
-app.view_functions['season.page'] = full
-answer = client.get('/')
-print(answer.status_code, answer.text)
+def fail():
+    raise OSError(number, os.strerror(number), '/there')
+app.view_functions['season.page'] = fail
+for number in (errno.ENOSPC, errno.EACCES):
+    answer = client.get('/')
+    print(answer.status_code, ' '.join(answer.text.split()))
 """
 
 
@@ -275,6 +277,9 @@ class TestProcess(DeskSchool):
     def test_a_link_of_no_desk(self):
         self.end()
         self.assertIn("no desk of this office runs", self.refused("desk", "--link"))
+        with open(os.path.join(self.desk, "desk.lock"), "rb") as lock:  # of one that begins
+            fcntl.flock(lock, fcntl.LOCK_EX)
+            self.assertIn("a desk of this office begins or ends just now", self.refused("desk", "--link"))
 
     def test_it_leaves_nothing_behind(self):
         self.browser.get("/candidates/1051")  # `serve` runs now
@@ -297,11 +302,14 @@ class TestProcess(DeskSchool):
 
     def test_after_a_kill_serve_ends_and_the_next_command_clears(self):
         self.browser.get("/candidates/1051")
-        children = self.children()
+        children, other = self.children(), self.another()
         self.end(signal.SIGKILL)
         sample.until(lambda: not any(self.runs(child) for child in children))
         self.office("summary")
         self.assertEqual(os.listdir(os.path.join(self.desk, "tmp")), [])
+        self.start()
+        self.browser.token = other.token  # of a link to the desk that was killed
+        self.assertEqual(self.browser.enter().status, 422)
 
     def children(self):
         with open(f"/proc/{self.process.pid}/task/{self.process.pid}/children", encoding="ascii") as file:
@@ -359,10 +367,12 @@ class TestIdle(unittest.TestCase):
 
 
 @unittest.skipUnless(HAS_FLASK, "Flask or waitress is missing")
-class TestFull(unittest.TestCase):
-    def test_a_full_disk_says_where_room_can_be_made(self):
-        done = subprocess.run([PYTHON, "-c", FULL, DESK], capture_output=True, text=True, check=True)
-        self.assertRegex(done.stdout, "(?s)^507 .*The disk is full: make room, for example in the folder .*/days")
+class TestFaults(unittest.TestCase):
+    def test_a_full_disk_says_where_room_can_be_made_and_another_fault_its_place(self):
+        done = subprocess.run([PYTHON, "-c", FAULTS, DESK], capture_output=True, text=True, check=True)
+        full, other = done.stdout.splitlines()
+        self.assertRegex(full, "^507 .*The disk is full: make room, for example in the folder .*/days")
+        self.assertRegex(other, "^500 .*>/there: Permission denied<")
 
 
 @unittest.skipUnless(HAS_FLASK, "Flask or waitress is missing")
