@@ -160,8 +160,8 @@ class TestRehearsal(DeskSchool):
         self.end()
         slow = self.write("slow", "")
         self.environment["EXAMOFFICE"] = self.write("program", (
-            f'#!/bin/sh\n[ "$2" = {self.path} ] || case "$*" in *" withdraw "*) while [ -e {slow} ]; do sleep 0.05; done;; '
-            f'esac\nexec {sample.built_program()} "$@"\n'))
+            f'#!/bin/sh\n[ "$2" = {self.path} ] || case "$*" in *" withdraw "*)\n'
+            f'while [ -e {slow} ]; do sleep 0.05; done;; esac\nexec {sample.built_program()} "$@"\n'))
         os.chmod(self.environment["EXAMOFFICE"], 0o700)
         self.start()
         self.browser.get("/")

@@ -30,6 +30,17 @@ from exam_desk.office import Office
 from exam_web import application, desk, guard
 app = application.make(desk.Desk(Office('none.db', 'none', datetime.date.today, 'x'), '127.0.0.1:1', '/x', False))
 """
+WRONG = MAKE + """
+from flask import g
+from exam_web import proposals
+def fail(*_):
+    raise KeyError('a mistake of the desk')
+with app.test_request_context('/'):
+    g.visit = guard.Visit('ab', 'x')
+    plan = proposals.Plan({}, [], ('season.page', {}))
+    proposals.work(plan, fail)
+print(plan.against, plan.can_be_done)
+"""
 TABLE = MAKE + """
 print(json.dumps([[rule.rule, sorted(rule.methods - {'HEAD', 'OPTIONS'})] for rule in app.url_map.iter_rules()]))
 """
@@ -373,6 +384,11 @@ class TestFaults(unittest.TestCase):
         full, other = done.stdout.splitlines()
         self.assertRegex(full, "^507 .*The disk is full: make room, for example in the folder .*/days")
         self.assertRegex(other, "^500 .*>/there: Permission denied<")
+
+    def test_a_mistake_of_the_desk_stands_on_the_page_and_in_the_terminal(self):
+        done = subprocess.run([PYTHON, "-c", WRONG, DESK], capture_output=True, text=True, check=True)
+        self.assertEqual(done.stdout, "['the desk is wrong here; the office is as the log says'] False\n")
+        self.assertIn("KeyError: 'a mistake of the desk'", done.stderr)
 
 
 @unittest.skipUnless(HAS_FLASK, "Flask or waitress is missing")
