@@ -144,11 +144,14 @@ class TestRehearsal(DeskSchool):
             page, _ = self.browser.post("/propose/withdraw", "/candidates/1051", **form, **state)
             self.assertEqual("has changed since the page that you came from" in self.browser.words(page), is_old)
         other = self.rows("SELECT number FROM entry WHERE paper = 'PH-1' AND number <> 1051")[0][0]
+        with open(os.path.join(self.desk, "log"), "a", encoding="utf-8") as log:
+            log.write("2026-01-01 00:00:00\tada\twithdraw 0001051 EN-1\t0\twithdrawn\n")  # before the rehearsal
         self.office("withdraw", f"{other:07}", "PH-1")
         before = self.seats()
         self.browser.post(page + "/do", page)
         self.assertIn("nothing was done", self.browser.words(page))
         self.assertEqual(self.browser.words(page).count(f"withdraw {other:07} PH-1"), 1)  # and not that it began
+        self.assertNotIn("EN-1", self.browser.words(page))
         self.assertEqual(self.seats(), before)
         self.browser.post(page + "/do", page)  # from what is shown now
         self.assertIn("What changed", self.browser.words(page))
@@ -395,6 +398,12 @@ class TestNotNow(DeskSchool):
             self.assertIn(part, text)
         self.browser.post(page + "/do", page)
         self.assertEqual(self.left(page, done=True)[0], "/sessions/MON-AM")
+
+    def test_of_forms_of_one_name_it_leads_to_the_one_that_was_left(self):
+        page, _ = self.browser.post("/propose/withdraw", "/candidates/1051", number="0001051", paper="PH-1", key="PH-1")
+        path, text = self.left(page)
+        self.assertEqual(path.partition("#")[2], "withdraw-PH-1")
+        self.assertEqual(text.count('id="withdraw-PH-1"'), 1)
 
 
 class TestBack(DeskSchool):
