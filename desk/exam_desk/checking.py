@@ -34,19 +34,17 @@ def check_folder(office: Office, folder: str) -> tuple[list[str], Counter[str]]:
     """Looks through the import files of a folder one after the other: each knows what the office has, and what those
     before it bring. Gives the lines, and how many files, mistakes, empty codes and notes there are. Raises `Trouble` at
     what is no file."""
-    names, known = sorted(os.listdir(folder)), office_knows(office)
+    names, known, lines, counts = sorted(os.listdir(folder)), office_knows(office), list[str](), Counter[str]()
     texts = {kind: files.read(os.path.join(folder, f"{kind}.csv")) for kind in files.HEADERS if f"{kind}.csv" in names}
-    found = {f"{kind}.csv": mistakes.looked_through(kind, text, known, MOST_SHOWN) for kind, text in texts.items()}
-    counts = Counter(files=len(found), mistakes=sum(wrong.count for wrong, _ in found.values()),
-                     codes=sum(wrong.counts[mistakes.NO_CODE] for wrong, _ in found.values()),
-                     notes=sum(notes.count for _, notes in found.values()))
-    lines = [line for name, (wrong, notes) in found.items()
-             for line in (*lines_on(name, wrong, ""), *lines_on(name, notes, "NOTE: "))]
+    for kind, text in texts.items():
+        wrong, notes = mistakes.looked_through(kind, text, known, MOST_SHOWN)
+        lines += [*lines_on(f"{kind}.csv", wrong, ""), *lines_on(f"{kind}.csv", notes, "NOTE: ")]
+        counts.update(files=1, mistakes=wrong.count, codes=wrong.counts[mistakes.NO_CODE], notes=notes.count)
     for name in names:
-        if name.lower().endswith(".csv") and name not in found:
-            lines.append(f"NOTE: {name} is none of the seven names, so it is not looked at")
-        elif name.lower().endswith(files.TABLES) and name not in found:
-            lines.append(f"NOTE: {name} is a workbook: `office read` makes the files of it")
+        if name.lower().endswith(files.TABLES) and name.removesuffix(".csv") not in texts:
+            why = "none of the seven names, so it is not looked at" if name.lower().endswith(".csv") else \
+                "a workbook: `office read` makes the files of it"
+            lines.append(f"NOTE: {name} is {why}")
     if texts and os.path.exists(office.path) and not counts["mistakes"] + counts["codes"]:
         refused, met = would_do(office, texts)
         counts.update(mistakes=len(refused), notes=len(met))

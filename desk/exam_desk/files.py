@@ -6,8 +6,6 @@ import contextlib
 import csv
 import datetime
 import io
-import itertools
-import operator
 import os
 import re
 import select
@@ -90,15 +88,23 @@ def put(path: str, text: bytes) -> None:
 def records(text: bytes, comma: bytes = b",") -> Iterator[Record]:
     """The records of a file, the header among them. Blank lines are none; an open quote runs to the end. Python's
     reader finds them in texts, so each byte becomes a letter. It knows no byte order mark, and says nothing of an open
-    quote: such a quote holds the blank line that is put behind the file."""
-    lines = io.TextIOWrapper(io.BytesIO(text.removeprefix(BOM)), "latin-1", newline="")
-    behind = iter(["\n"])
+    quote: such a quote holds the blank line that is put behind the file. Raises `csv.Error` at a record that is longer
+    than what an import takes."""
+    line, size, closed = 1, 0, True
+
+    def lines() -> Iterator[str]:
+        nonlocal size, closed
+        for each in io.TextIOWrapper(io.BytesIO(text.removeprefix(BOM)), "latin-1", newline=""):
+            if (size := size + len(each)) > MOST_BYTES + 1:
+                raise csv.Error
+            yield each
+        closed = False
+        yield "\n"
     csv.field_size_limit(MOST_BYTES + 1)
-    reader = csv.reader(itertools.chain(lines, behind), delimiter=comma.decode("ascii"))
-    line = 1
+    reader = csv.reader(lines(), delimiter=comma.decode("ascii"))
     for fields in reader:
+        size = 0
         if fields:
-            closed = operator.length_hint(behind) > 0
             if not closed:
                 fields[-1] = fields[-1][:-1]
             row: list[str | bytes] = fields  # type: ignore[assignment]

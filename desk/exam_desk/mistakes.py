@@ -89,6 +89,7 @@ class Known:
         self.withdrawn: set[tuple[bytes, ...]] = set()
         self.granted: set[bytes] = set()  # the numbers of candidates with a granted arrangement
         self.codes: dict[bytes, bytes] = {}  # the access code of each number
+        self.days: dict[str, str] = {}  # of the sessions, also of those that are read from a workbook
         if connection:
             for kind in files.HEADERS:
                 self.take(kind, [tuple(map(str.encode, row)) for row in files.rows_of(connection, kind)])
@@ -104,6 +105,8 @@ class Known:
             self.entries.update(rows)
         elif kind == "candidates":
             self.codes.update((row[0], row[2]) for row in rows)
+        elif kind == "sessions":
+            self.days.update((code.decode("utf-8", "replace"), day.decode("utf-8", "replace")) for code, day, _ in rows)
 
 
 def cure(column: str, field: bytes) -> Cure:
@@ -163,15 +166,11 @@ def looked_through(kind: str, text: bytes, known: Known, most: int = MOST_COUNTE
     return file.looked_through(file.rows(text))
 
 
-def place_of(line: int) -> str:
-    return f"line {line}"
-
-
 class File:
     """A file of rows while it is looked through."""
 
     def __init__(self, kind: str, known: Known, most: int = MOST_COUNTED,
-                 place: Callable[[int], str] = place_of) -> None:
+                 place: Callable[[int], str] = "line {}".format) -> None:
         self.kind, self.known, self.header = kind, known, files.HEADERS[kind]
         self.place = place  # how the row of a line is called
         self.wrong, self.notes = Found(most), Found(most)

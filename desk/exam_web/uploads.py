@@ -6,7 +6,7 @@ becomes a path: it is compared and shown. A zip is read in memory and never unpa
 import datetime
 import itertools
 import zipfile
-from collections import defaultdict
+from collections import Counter, defaultdict
 from collections.abc import Callable, Iterable, Iterator, Mapping
 from dataclasses import dataclass, field, replace
 from functools import partial
@@ -55,7 +55,8 @@ class Upload:
     texts: dict[str, bytes] = field(default_factory=dict)  # of the seven files, by kind
     books: list[tuple[str, bytes]] = field(default_factory=list)  # what is none of the seven as it is, until it is read
     given: Mapping[str, Given] | None = None  # what a file of columns says of them
-    lines: list[tables.Line] = field(default_factory=list)  # on the sheets of the books
+    lines: list[tables.Line] = field(default_factory=list)  # on the sheets of the books, those of one kind together
+    counts: Counter[str] = field(default_factory=Counter)  # of the lines when each stood alone, by their sort
     rows: dict[str, list[tuple[bytes, ...]]] = field(default_factory=dict)  # of sheets with mistakes, by kind
     is_called_list: bool = False  # a file, or a sheet of entries, is called withdrawals or reinstatements
     notes: list[Markup] = field(default_factory=list)
@@ -160,10 +161,9 @@ def read_books(upload: Upload) -> None:
     names = [sheet.name for sheet in book.sheets] if upload.hidden == "take" else None
     given = {kind: says for kind, says in (upload.given or {}).items()
              if len(upload.books) == 1 or not says.sheet or folded(says.sheet) in there}
-    days = {code.decode(): day.decode() for code, day, _ in brought.get("sessions", [])}
-    job = tables.Job(known, upload.way, given, names, hidden=upload.hidden, lines=upload.lines, days=days)
+    job = tables.Job(known, upload.way, given, names, hidden=upload.hidden)
     try:
-        take_rows(upload, ", ".join(name for name, _ in upload.books), book.form, read_book(book, job).records)
+        take_rows(upload, ", ".join(name for name, _ in upload.books), book.form, read_book(book, job))
     except Trouble as trouble:
         upload.note(upload.books[0][0], said(trouble.sentence))
 
@@ -191,19 +191,22 @@ def together(upload: Upload) -> Book:
     return whole
 
 
-def take_rows(upload: Upload, name: str, form: str, records: Mapping[str, list[tables.Record]]) -> None:
+def take_rows(upload: Upload, name: str, form: str, job: tables.Job) -> None:
     """Takes the rows of the sheets where no line is a mistake; else the files know of them, and they are not taken."""
-    wrong = [line for line in upload.lines if line.sort == "mistake"]
-    if not records and not any(line.sheet for line in wrong):
-        upload.lines, is_broken = [], form == "csv" and name.lower().endswith(files.TABLES[1:])
+    if not job.records and not any(line.sheet and line.sort == "mistake" for line in job.lines):
+        is_broken = form == "csv" and name.lower().endswith(files.TABLES[1:])
         upload.note(name, said(NO_WORKBOOK) if is_broken else text(
             "it has no row below the header of one of the seven files: take the empty workbook of the page Files"))
-    elif wrong:
-        upload.rows = {kind: [tuple(map(encoded, each.fields)) for each in found] for kind, found in records.items()}
-    else:
-        upload.is_called_list |= any(is_called_list(each.sheet.name) for each in records.get("entries", []))
-        for kind, found in records.items():
-            upload.take(kind, files.file_of(kind, [each.fields for each in found]), name)
+        return
+    upload.lines = [line for line in tables.together(job.lines) if line.what != mistakes.NO_CODE]
+    upload.counts = Counter(line.sort for line in job.lines)
+    if upload.counts["mistake"]:
+        upload.rows = {kind: [tuple(map(encoded, each.fields)) for each in found]
+                       for kind, found in job.records.items()}
+        return
+    upload.is_called_list |= any(is_called_list(each.sheet.name) for each in job.records.get("entries", []))
+    for kind, found in job.records.items():
+        upload.take(kind, files.file_of(kind, [each.fields for each in found]), name)
 
 
 def below_header(content: bytes) -> Iterator[files.Record]:
@@ -305,12 +308,10 @@ def upload() -> Response:
 def look(key: str) -> str:
     """An upload with its mistakes; it can be imported where none is left in sheets."""
     found: Upload = g.visit.uploads.get(key) or abort(404)
-    looked, of_sheets = looked_through(found), sum(line.sort == "mistake" for line in found.lines)
-    found.mistakes = sum(each.total for each in looked.values()) + of_sheets
-    lines = [line for line in tables.together(found.lines) if line.what != mistakes.NO_CODE]
-    return render_template("look.html", key=key, upload=found, looked=looked, asks=asks(found, looked), lines=lines,
-                           of_sheets=of_sheets, headers=files.HEADERS, words=HEADER_WORDS, most=MOST_SHOWN,
-                           most_lines=MOST_LINES)
+    looked = looked_through(found)
+    found.mistakes = sum(each.total for each in looked.values()) + found.counts["mistake"]
+    return render_template("look.html", key=key, upload=found, looked=looked, asks=asks(found, looked),
+                           headers=files.HEADERS, words=HEADER_WORDS, most=MOST_SHOWN, most_lines=MOST_LINES)
 
 
 @pages.post("/files/uploaded/<key>/correct")

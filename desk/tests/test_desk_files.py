@@ -571,6 +571,8 @@ class TestFiles(Uploads):
         self.assertIn("1 mistake", self.browser.words(page))
         self.assertIn('"Ann\tLee","K4WBN7RTQD"\n"0012002","Bo","K4WBN7RTQE"', self.browser.ask(
             "GET", page + "/candidates.csv")[1])
+        self.browser.post(page + "/correct", page, **{"candidates:2:name": 401 * "x"})
+        self.assertRegex(self.browser.ask("GET", page + "/candidates.csv")[1], '"0012001","x{400}",')
 
     def test_a_page_from_before_a_correction_corrects_nothing(self):
         """Behind a row that is left out, what was line 4 is line 3."""

@@ -169,6 +169,29 @@ class Limits(unittest.TestCase):
         book = child.read(self.with_sheet(harder.sheet_xml('<row><c r="XFD1048576"><v>1</v></c></row>')))
         self.assertEqual([(1_048_576, [16_384])], [(row, [*found]) for row, found in unpacked(book).sheets[0].rows.items()])
 
+    def test_a_text_has_the_limits_of_a_sheet(self) -> None:
+        """Cells that say the same are kept once; a row has as many bytes as an import takes, also over several lines."""
+        with mock.patch.multiple(cells, MOST_ROW=3, MOST_COLUMN=2):
+            [sheet] = opening.read_csv(b'1,="01"\n\n1,="01",,\n', "x").sheets
+            self.assertEqual({1: {1: ("1", "1"), 2: ("01", '="01"')}, 3: {1: ("1", "1"), 2: ("01", '="01"')}},
+                             {row: {at: cell[1:3] for at, cell in found.items()} for row, found in sheet.rows.items()})
+            self.assertIs(sheet.rows[1][2], sheet.rows[3][2])
+            for text in b"1,2,3\n", b"1\n1\n1\n1\n":
+                with self.assertRaisesRegex(Trouble, "it has a cell beyond the last row or column"):
+                    opening.read_csv(text, "x")
+        with mock.patch.object(files, "MOST_BYTES", 20):
+            self.assertEqual(9, len(opening.read_csv(9 * b"1,2,3,4,5\n", "x").sheets[0].rows))
+            self.assertEqual({1: 7}, {row: len(found) for row, found in opening.read_csv(7 * b"11,", "x").sheets[0].rows.items()})
+            for text in 8 * b"11,", 6 * b'"\n",':
+                with self.assertRaisesRegex(Trouble, "one of its rows has more than 20 bytes"):
+                    opening.read_csv(text, "x")
+
+    def test_lines_have_a_limit(self) -> None:
+        with mock.patch("exam_desk.workbook.tables.MOST_LINES", 4):
+            self.assertEqual(4, len(read_book(opening.read_csv(b"number,paper\n1,MA-1\n", "x"), Job(Known())).lines))
+            with self.assertRaisesRegex(Trouble, "there is more to say of it than 4 lines: split it"):
+                read_book(opening.read_csv(b"number,paper\n1,MA-1\n2,MA-1\n", "x"), Job(Known()))
+
     def test_what_is_no_workbook_is_refused(self) -> None:
         letter = odd.changed(rawbook.ods(""), "content.xml", "office:spreadsheet", "office:text")
         self.refused("it is a document of another kind", letter)
@@ -205,6 +228,8 @@ class Columns(unittest.TestCase):
         for text, said in (('dates = "first"', "dates is day-first or month-first"), ("halls = 1", "halls is none of the"),
                            ('[halls]\nfeatures = { always = "big" }', "features: write a header"),
                            ('[halls]\nhall = ["A", "B"]', "for names and titles also several"),
+                           ('[halls]\ntitle = ["Room no.", "room NO"]', "also several that differ"),
+                           ("[words.start]\nnoon = '12:00'\nNoon = '12:30'", "'Noon' stands for two values"),
                            ('[halls]\nsheet = { always = "A" }', "sheet: write a header"), ("words = 1", "write a table such"),
                            ("[words.room]\na = 'b'", "room is no column"), ("[words]\nhall = 1", "write a table such"),
                            ("[words.start]\nnoon = 12", "write a table such"),
@@ -255,6 +280,15 @@ class Told(unittest.TestCase):
         self.assertEqual([f"Sessions!B2: date {days[0]} became 2027-06-14 (Monday, 14 June 2027, as there is no month 14)",
                           *(f"Sessions!B{row}" for row in range(3, 7)), "Candidates!A2:A5", "Candidates!A6:A9"],
                          [told[0], *(line.partition(":")[0] for line in told[1:5]), *(line.rpartition(": ")[0] for line in told[5:7])])
+
+    def test_what_stands_above_an_empty_cell_is_told(self) -> None:
+        """However far above it is, also in a row that is no row of the table; not the header."""
+        rows = [["0000001", None, "CODE0001"], ["0000002", "Ada", "CODE0002"], *1200 * [[]], ["Total", "Bo", None],
+                ["0000003", None, "CODE0003"], ["0000004", None, "CODE0004"]]
+        job = read_book(unpacked(child.read(rawbook.xlsx(cases.candidates(*rows)))), Job(Known()))
+        self.assertEqual(["Candidates!B2: MISTAKE: name is missing",
+                          *(f"Candidates!B{row}: MISTAKE: name is missing; Candidates!B1204 above has Bo: fill it down if it counts here too"
+                            for row in (1205, 1206))], [line.whole() for line in job.lines if line.sort == "mistake"])
 
     def test_nothing_is_said_of_what_is_not_read_or_above_the_first_row(self) -> None:
         rows = [*cases.CANDIDATES, "Age"], [None, "Ada", "CODE0001", ("f", "1+1", 2)]
@@ -504,6 +538,17 @@ class Commands(sample.SampleSchool):
         self.assertNotIn(first[2], said)
         self.assertEqual([first], self.rows("new", "candidates"))
         self.assertEqual([[first[0], paper]], self.rows("new", "entries"))
+
+    @needs_openpyxl
+    def test_a_time_beside_the_day_of_a_session_that_the_office_alone_has(self) -> None:
+        """A spreadsheet's 12:30 on 7 or on 8 June 2027: 46545 days and a part of one after 1899-12-30."""
+        for number, status in ("46545.520833333336", 0), ("46546.520833333336", 1):
+            book = rawbook.xlsx(cases.sheet("Openings", cases.OPENINGS, ["MON-AM", "GYM", 20, ("n", number, rawbook.TIME), "no"]))
+            pathlib.Path(self.folder, "b.xlsx").write_bytes(book)
+            done = self.run_office("read", "b.xlsx", f"new{status}")
+            self.assertEqual(status, done.returncode, done.stdout)
+        self.assertIn("has a date too, 2027-06-08, which is not that of the session", done.stdout)
+        self.assertEqual([["MON-AM", "GYM", "20", "12:30", "no"]], self.rows("new0", "openings"))
 
 
 if __name__ == "__main__":

@@ -168,12 +168,13 @@ def given_of(kind: str, said: object) -> Given:
         always = value.get("always") if isinstance(value, dict) else None
         if name not in ("sheet", *files.HEADERS[kind]):
             raise Trouble(f"[{kind}] has {name}; its columns are {', '.join(files.HEADERS[kind])}")
-        if texts and all(isinstance(text, str) and text.strip() for text in texts):
+        is_header = texts and all(isinstance(text, str) and text.strip() for text in texts)
+        if is_header and len({*map(folded, texts)}) == len(texts):
             headers[name] = texts
         elif isinstance(always, str) and name != "sheet" and mistakes.RIGHT[name](always.encode()):
             fixed[name] = always
         else:
-            raise Trouble(f'[{kind}] {name}: write a header such as "Pupil ID", for names and titles also several, or '
+            raise Trouble(f'[{kind}] {name}: write a header such as "Pupil ID", for names and titles also several that differ, or '
                           f'{{ always = ".." }} with {mistakes.CURES.get(name, "a value")}')
     [sheet] = headers.pop("sheet", [""])
     return Given(headers, fixed, sheet)
@@ -183,7 +184,10 @@ def words_of(name: str, meant: Mapping[str, str]) -> dict[str, str]:
     """What words in small letters stand for in a column."""
     if name not in mistakes.RIGHT:
         raise Trouble(f"[words.{name}]: {name} is no column of the import files")
-    for value in meant.values():
+    found: dict[str, str] = {}
+    for word, value in meant.items():
         if not mistakes.RIGHT[name](value.encode()):
             raise Trouble(f"[words.{name}] {value!r} is no value of {name} ({mistakes.CURES[name]})")
-    return {word.lower(): value for word, value in meant.items()}
+        if found.setdefault(word.lower(), value) != value:
+            raise Trouble(f"[words.{name}] {word!r} stands for two values: capitals do not matter")
+    return found

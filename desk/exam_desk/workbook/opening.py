@@ -1,5 +1,6 @@
 """Opens a workbook: what it is its bytes say, not its name. Those in a zip are read by a process of their own."""
 import csv
+import functools
 import importlib.util
 import os
 import pathlib
@@ -91,6 +92,7 @@ def comma_of(lines: list[str]) -> str:
 def read_csv(data: bytes, name: str, encoding: str | None = None) -> Book:
     """A file of one sheet whose cells are texts."""
     budget, sheet = Budget(), Sheet(name)
+    cell_of = functools.cache(lambda shown: Cell("text", re.sub(r'\A="([^"]*)"\Z', r"\1", shown), shown))
     try:
         text = data.decode(encoding or ("utf-16" if data.startswith(UTF_16) else "utf-8-sig"))
         comma = comma_of([line for line in text[:1 << 16].splitlines()[:20] if line.strip()])
@@ -99,14 +101,13 @@ def read_csv(data: bytes, name: str, encoding: str | None = None) -> Book:
                 raise Trouble(f"a quote is not closed in line {record.line}")
             for column, shown in enumerate(map(bytes.decode, record.fields), 1):
                 if shown:
-                    budget.keep(shown)
-                    told = re.sub(r'\A="([^"]*)"\Z', r"\1", shown)  # some programs write ="0000017" for the zeros
-                    sheet.rows.setdefault(record.line, {})[column] = Cell("text", told, shown)
+                    budget.keep(shown, 1, record.line, column)
+                    sheet.rows.setdefault(record.line, {})[column] = cell_of(shown)
     except UnicodeError:
         raise Trouble(NO_UTF_8) from None
     except LookupError:
         raise Trouble(f"there is no encoding {encoding}") from None
     except csv.Error:
-        raise Trouble(f"one of its fields has more than {files.MOST_BYTES:,} bytes: is a quote not closed?") from None
+        raise Trouble(f"one of its rows has more than {files.MOST_BYTES:,} bytes: is a quote not closed?") from None
     named = "tabs" if comma == "\t" else comma
     return Book("csv", [sheet], [f"its columns are parted by {named}"] * (comma != ","))

@@ -15,7 +15,6 @@ from exam_desk.words import FEATURES
 TOTAL = re.compile("(totals?|summe)([ :].*)?|(grand total|subtotal|gesamt|anzahl|sum|count)([ :]+[0-9.,]*)?")
 EXAMPLE = "e.g. "  # before the first value of the template's example
 ANY_HEADER = set[str]().union(*HEADER_WORDS.values())
-MOST_ABOVE = 1000  # rows in which a value above an empty cell is looked for
 Row = Mapping[int, Cell | None]  # by column, what is read of a row
 
 
@@ -96,6 +95,7 @@ class Table(Headed):
         for row, cells in self.below.items():
             own = {place: seen(cells.get(place)) for place in places}
             here = {place: cell or filled.get((row, place)) for place, cell in own.items()}
+            self.above |= {place: row for place, cell in own.items() if cell}
             if not any(own.values()):
                 continue
             if all(folded(cell.text) == head.get(at) if cell else at not in head for at, cell in here.items()):
@@ -138,16 +138,16 @@ class Table(Headed):
     def read_row(self, row: int, here: Row) -> list[Record]:
         """The records of a row: one, or in a table of papers one for each cross."""
         self.note_looks(row, here)
-        header, columns = files.HEADERS[self.kind], self.header.columns
+        header = files.HEADERS[self.kind]
         fields = [self.read_field(row, name, here) for name in header]
-        places = [columns[name][0] if name in columns else None for name in header]
         crosses = self.read_marks(row, here)
         if self.kind == "entries" and self.marks:
-            return [Record(self.sheet, row, [places[0], place], [fields[0], name]) for place, name in crosses.items()]
+            return [Record(self.sheet, row, [self.firsts[0], place], [fields[0], name])
+                    for place, name in crosses.items()]
         if self.marks:
             named = {*crosses.values()}
             fields[header.index(MARKED[self.kind])] = "+".join(name for name in FEATURES if name in named) or "-"
-        return [Record(self.sheet, row, places, fields)]
+        return [Record(self.sheet, row, self.firsts, fields)]
 
     def note_looks(self, row: int, here: Row) -> None:
         for place, cell in sorted(self.sheet.rows[row].items()):
@@ -185,11 +185,11 @@ class Table(Headed):
             if value.day:
                 column = "date" if name == "start" else "session"
                 said = self.job.said(column, here.get(self.header.columns.get(column, [0])[0]))
-                if value.day not in (*NO_DAY, said if name == "start" else self.job.days.get(said)):
+                if value.day not in (*NO_DAY, said if name == "start" else self.job.known.days.get(said)):
                     raise Wrong(f"has a date too, {value.day}, which is not that of the session: leave the time alone "
                                 "in its cell")
         except Wrong as fault:
-            what = f"{name} is missing{self.above(row, place)}" if cell is None else \
+            what = f"{name} is missing{self.said_above(place)}" if cell is None else \
                 f"{name} {files.shown(shown_of(cell).encode('utf-8', 'replace'))}: {fault}"
             self.mistake(row, place, what, f"{name} {fault}")
             return cell.text if cell else ""
@@ -201,13 +201,12 @@ class Table(Headed):
             self.note(row, place, f"{name} {value.text} {value.note}", name + value.note)
         return value.text
 
-    def above(self, row: int, place: int) -> str:
+    def said_above(self, place: int) -> str:
         """What stands above an empty cell, if it was meant to be filled down."""
-        for line in range(row - 1, max(self.header.row, row - MOST_ABOVE), -1):
-            if cell := self.sheet.rows.get(line, {}).get(place):
-                where = place_name(self.sheet, line, place)
-                return f"; {where} above has {shown_of(cell)}: fill it down if it counts here too"
-        return ""
+        if not (row := self.above.get(place)):
+            return ""
+        where, value = place_name(self.sheet, row, place), shown_of(self.sheet.rows[row][place])
+        return f"; {where} above has {value}: fill it down if it counts here too"
 
 
 @functools.lru_cache(1 << 16)

@@ -2,13 +2,15 @@
 import functools
 import itertools
 import re
+import sys
 from collections import defaultdict
-from collections.abc import Callable, Iterable, Mapping
+from collections.abc import Callable, Iterable, Mapping, Sequence
 from dataclasses import dataclass, field
 from functools import partial, partialmethod
 from typing import NamedTuple
 
 from exam_desk import files, mistakes
+from exam_desk.office import Trouble
 from exam_desk.workbook.cells import Cell, Sheet, letters_of, place_name
 from exam_desk.workbook.headers import HEADER_WORDS, MARKED, OF_PEOPLE, Given, Header, folded, is_called_list, seen
 from exam_desk.workbook.values import (NEAR, SHORT_FEATURES, UNREAD, Value, Way, Wrong, mark_of, read_value,
@@ -18,6 +20,7 @@ WORDS = {"change": "", "note": "NOTE: ", "mistake": "MISTAKE: "}  # in the order
 MOST_PLACES = 5  # of lines that stand together
 MOST_TEXTS = 3  # of one kind that have a line each
 MOST_VALUES = 50_000  # that are kept, lest they are read again
+MOST_LINES = 500_000  # on a workbook
 PARTICULAR = re.compile(r"[0-9]|\b[A-Z][A-Z-]+\b")  # in words that are numbers, dates or codes
 CROSSES = {"entries": "correct the code of the paper, or delete the column",  # what cures crosses that are not read
            "candidates": "put papers on a sheet Entries, and needs on a sheet Arrangements, with the numbers"}
@@ -54,7 +57,7 @@ class Record(NamedTuple):
 
     sheet: Sheet
     row: int
-    columns: list[int | None]  # of each field the column of the sheet
+    columns: Sequence[int | None]  # of each field the column of the sheet
     fields: list[str]
 
 
@@ -89,7 +92,6 @@ class Job:
     leave: list[str] = field(default_factory=list)  # sheets that are not read
     together: list[str] = field(default_factory=list)  # all sheets of such a kind are one list
     hidden: str = ""  # take or leave: what becomes of hidden rows
-    days: dict[str, str] = field(default_factory=dict)  # of the sessions that are imported with it
     papers: set[str] = field(default_factory=set)  # codes that the office or the workbook has
     records: dict[str, list[Record]] = field(default_factory=dict)  # by kind; those with a mistake are not written
     lines: list[Line] = field(default_factory=list)
@@ -100,7 +102,9 @@ class Job:
 
     def tell(self, sort: str, text: str, sheet: Sheet | None = None, row: int | None = None,
              column: int | None = None, what: str = "") -> None:
-        self.lines.append(Line(sort, text, sheet, [row] if row else [], column, what or text))
+        if len(self.lines) >= MOST_LINES:
+            raise Trouble(f"there is more to say of it than {MOST_LINES:,} lines: split it")
+        self.lines.append(Line(sort, text, sheet, [row] if row else [], column, sys.intern(what) or text))
 
     mistake = partialmethod(tell, "mistake")
     change = partialmethod(tell, "change")
@@ -142,7 +146,9 @@ class Headed:
         fixed = self.job.of_kind(self.kind).fixed
         self.fixed = {**fixed, "paper": self.paper} if self.paper else fixed  # of a column a value for all rows
         self.places = {place for places in self.header.columns.values() for place in places}  # columns that are read
+        self.firsts = [next(iter(self.header.columns.get(name, [])), None) for name in files.HEADERS[self.kind]]
         self.marks: dict[int, str] = {}  # of a column of crosses its feature or paper
+        self.above: dict[int, int] = {}  # of a column the last row that was looked at and has a value there
         free = {place: cell for place, cell in self.head.items() if place not in self.places}
         if MARKED.get(self.kind) in (None, *self.header.columns, *self.fixed):
             return

@@ -30,5 +30,7 @@ def bombs() -> list[dict[str, Any]]:
         bomb("depth", part(2_000_000 * b"<a>"), "deep"),
         bomb("letters", part(harder.sheet_xml("".join(
             f'<row><c t="inlineStr"><is><t>{32767 * "x"}</t></is></c></row>' for _ in range(6000)))), "128 MB"),
+        bomb("row", (64 << 20) // 3 * b"11,", "one of its rows has more than 4,194,304 bytes", "csv"),
+        bomb("lines", 2_000_000 * b"1\n", "beyond the last row", "csv"),
         bomb("rows", ods('<table:table table:name="Candidates">' + ods_row(cells, number_rows_repeated="1000000") + "</table:table>"),
              "2,000,000", "ods")]
