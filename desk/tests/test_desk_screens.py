@@ -173,6 +173,8 @@ class TestNewCandidate(DeskSchool):
         text = self.browser.get("/candidates")
         self.assertNotIn('name="paper" value="CS-1"', text)
         self.assertIn('name="paper" value="PH-1"', text)
+        asked = self.browser.get("/candidates/1051").partition("Enter for")[2].partition("</select>")[0]
+        self.assertEqual(re.findall('<option value="([^"]+)"', asked), ["BI-1", "CH-1", "MA-1", "MA-2", "EN-2", "FR"])
 
     def test_a_number_without_its_zeros(self):
         page, _ = self.browser.post("/propose/candidate", "/candidates", **{**self.NEW, "number": " 9001 "})
