@@ -149,7 +149,6 @@ PLANS: dict[str, Callable[[Form], Plan]] = {}  # what forms ask, by the name of 
 
 
 def command(word: str, names: Sequence[str], values: Mapping[str, str]) -> Step:
-    """A command of the program with the values of these names."""
     return Step((word, *(values[name] for name in names)))
 
 
@@ -271,8 +270,7 @@ def do(key: str) -> Response:
     with plan.lock:  # a second click does nothing
         if plan.can_be_done:
             if plan.ticked() and not request.form.get("tick"):
-                wrong = text("tick this, or leave the office as it is")
-                raise Wrong(("proposals.page", {"key": key}), tick=wrong)
+                raise Wrong(("proposals.page", {"key": key}), tick=text("tick this, or leave the office as it is"))
             work(plan, carry_out)
     return lead("proposals.page", key=key)
 

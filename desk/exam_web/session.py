@@ -31,7 +31,6 @@ class Session:
     """A session of the view that the request shows."""
 
     def __init__(self, code: str) -> None:
-        """Answers 404 where there is no such session."""
         self.code, self.sums = code, sums(view()).get(code) or abort(404)
         self.page: Page = ("session.page", {"code": code})
         self.halls = {each.hall: each for each in facts.openings(view().reading.rows, code)}  # that are open
@@ -43,7 +42,6 @@ class Session:
         return "session.hall", {"code": self.code, "hall": hall}
 
     def taken(self) -> dict[str, int]:
-        """How many sit in each hall."""
         return dict(view().rows("SELECT hall, count(*) FROM seat WHERE session = ? GROUP BY hall", [self.code]))
 
     def papers(self) -> list[sqlite3.Row]:

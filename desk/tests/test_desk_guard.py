@@ -41,6 +41,12 @@ with app.test_request_context('/'):
     proposals.work(plan, fail)
 print(plan.against, plan.can_be_done)
 """
+SAID = MAKE + """
+from exam_web import wording
+with app.test_request_context('/'):
+    for words in ('`office back` lists copies', '`office look 0001051 --codes` says it', '`office printed X` <b>'):
+        print(wording.said(words))
+"""
 TABLE = MAKE + """
 print(json.dumps([[rule.rule, sorted(rule.methods - {'HEAD', 'OPTIONS'})] for rule in app.url_map.iter_rules()]))
 """
@@ -384,6 +390,13 @@ class TestFaults(unittest.TestCase):
         full, other = done.stdout.splitlines()
         self.assertRegex(full, "^507 .*The disk is full: make room, for example in the folder .*/days")
         self.assertRegex(other, "^500 .*>/there: Permission denied<")
+
+    def test_a_command_leads_to_the_page_that_does_what_it_does(self):
+        done = subprocess.run([PYTHON, "-c", SAID, DESK], capture_output=True, text=True, check=True)
+        self.assertEqual(done.stdout.splitlines(), [
+            '<bdi><a href="/office">`office back`</a> lists copies</bdi>',
+            '<bdi><a href="/candidates/1051">`office look 0001051 --codes`</a> says it</bdi>',
+            "<bdi>`office printed X` &lt;b&gt;</bdi>"])
 
     def test_a_mistake_of_the_desk_stands_on_the_page_and_in_the_terminal(self):
         done = subprocess.run([PYTHON, "-c", WRONG, DESK], capture_output=True, text=True, check=True)
