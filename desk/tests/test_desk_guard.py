@@ -68,14 +68,15 @@ for seconds in (5 * 3600, 5 * 3600, 8 * 3600 + 1):
 print(*found)
 """
 FAULTS = MAKE + """
-import errno, os
+import errno, logging, os
+app.logger.setLevel(logging.CRITICAL)
 app.extensions['guard'].visits = {guard.digest('secret'): guard.Visit('ab', 'x')}
 client = app.test_client()
 client.set_cookie('localhost', 'desk', 'secret')
 def fail():
-    raise OSError(number, os.strerror(number), '/there')
+    raise fault
 app.view_functions['season.page'] = fail
-for number in (errno.ENOSPC, errno.EACCES):
+for fault in (*(OSError(each, os.strerror(each), '/there') for each in (errno.ENOSPC, errno.EACCES)), KeyError('x')):
     answer = client.get('/')
     print(answer.status_code, ' '.join(answer.text.split()))
 """
@@ -387,9 +388,10 @@ class TestIdle(unittest.TestCase):
 class TestFaults(unittest.TestCase):
     def test_a_full_disk_says_where_room_can_be_made_and_another_fault_its_place(self):
         done = subprocess.run([PYTHON, "-c", FAULTS, DESK], capture_output=True, text=True, check=True)
-        full, other = done.stdout.splitlines()
+        full, other, mistake = done.stdout.splitlines()
         self.assertRegex(full, "^507 .*The disk is full: make room, for example in the folder .*/days")
         self.assertRegex(other, "^500 .*>/there: Permission denied<")
+        self.assertRegex(mistake, "^500 .*the desk is wrong here; the office is as the log says")
 
     def test_a_command_leads_to_the_page_that_does_what_it_does(self):
         done = subprocess.run([PYTHON, "-c", SAID, DESK], capture_output=True, text=True, check=True)

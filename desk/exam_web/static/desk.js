@@ -151,7 +151,11 @@ function takeFiles() {
 }
 takeFiles();
 
-// each hall has a list of its own to tick who is absent: one is sent with all
+// each hall has a list of its own to tick who is absent: one is sent with all; who stands in two is ticked in both
+addEventListener("change", (event) => {
+  if (event.target.name !== "absent") return;
+  for (const box of document.querySelectorAll(`input[name=absent][value="${event.target.value}"]`)) box.checked = event.target.checked;
+});
 addEventListener("formdata", (event) => {
   if (!event.target.action.endsWith("/absent")) return;
   for (const box of document.querySelectorAll("input[name=absent]")) {
