@@ -1,5 +1,5 @@
 """Candidates: the search, their notes, and the page of one. Appeals: the open ones by their last day, and one with what
-its grant would come to. Two papers at a second sitting for who has them; and two sessions at one time."""
+its grant would come to. Two papers at once, and a second sitting for who has them; two sessions at one time."""
 import sqlite3
 from collections.abc import Callable
 from functools import partial
@@ -32,7 +32,7 @@ Values = dict[str, str]
 def find() -> str | Response:
     """Whose number ends so, or whose name has all these words; one candidate alone is shown at once."""
     asked = request.args.get("q", "").strip()[:MOST_ASKED]
-    found = texts.find(view().reading.rows, asked)
+    found = texts.find(view().reading.rows, asked) if asked else []
     if asked.isascii() and asked.isdigit():
         rows = view().rows(f"{texts.CANDIDATES} WHERE printf('%07d', number) LIKE ?", [f"%{asked}"])
         found = lists.by_name(Person(*row) for row in rows)
