@@ -97,7 +97,7 @@ def problem(fault: Exception) -> ResponseReturnValue:
         if fault.code == 401:
             return (guard.page("visit"), 401) if request.method == "POST" else redirect(url_for("entering.page"))
         status = fault.code or 500
-        said = text(proposals.WRONG_DESK) if status == 500 else escape(fault.description)
+        said = wording.said(proposals.WRONG_DESK) if status == 500 else escape(fault.description)
     elif isinstance(fault, OSError) and fault.errno in beside.FULL:
         said, status = text("The disk is full: make room, for example in the folder {place}, and try again.",
                             place=beside.folder(desk().office.path, beside.DAYS)), 507
