@@ -138,6 +138,18 @@ class TestRehearsal(DeskSchool):
         self.assertEqual(self.log().count("withdraw 0001051 PH-1\t0"), 1)
         self.assertEqual(self.log().count("withdraw 0001051 PH-1\tbegins"), 1)
 
+    def test_a_result_that_was_not_promised(self):
+        """The program does something else to the office than to the copy."""
+        self.end()
+        self.environment["EXAMOFFICE"] = self.write("program", (
+            f'#!/bin/sh\n[ "$2 $5" = "{self.path} withdraw" ] && set -- "$1" "$2" "$3" "$4" withdraw 0001051 EN-1\n'
+            f'exec {sample.built_program()} "$@"\n'))
+        os.chmod(self.environment["EXAMOFFICE"], 0o700)
+        self.start()
+        page, _ = self.browser.post("/propose/withdraw", "/candidates/1051", number="0001051", paper="PH-1")
+        self.browser.post(page + "/do", page)
+        self.assertIn("The result is not what the rehearsal showed. This should never be", self.browser.words(page))
+
     def test_another_officer_meanwhile(self):
         form = {"number": "0001051", "paper": "PH-1"}
         for state, is_old in ({"state": "0" * 64}, True), ({}, False):

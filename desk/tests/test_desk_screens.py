@@ -403,7 +403,7 @@ class TestSchool(DeskSchool):
 
 
 class TestLetters(unittest.TestCase):
-    def test_they_are_as_large_as_the_browser_is_told(self):
+    def test_they_are_as_large_as_the_browser_has_them(self):
         """Those in the picture of a hall are as large as its desks."""
         rules = re.findall(r"([^{}]+)\{([^{}]*)\}", (DESK / "exam_web/static/desk.css").read_text("utf-8"))
         self.assertEqual({where.split()[0] for where, what in rules if re.search(r"font[^;]*\dpx", what)}, {".grid"})

@@ -136,7 +136,9 @@ function takeFiles() {
   if (!drop) return;
   for (const input of drop.querySelectorAll("[type=file]")) {
     input.addEventListener("change", () => {
-      if (input.files.length) send(drop, input.webkitdirectory ? tables([...input.files]) : [...input.files]);
+      const found = [...input.files];
+      input.value = "";  // so that a file which nothing was taken of can be chosen again
+      if (found.length) send(drop, input.webkitdirectory ? tables(found) : found);
     });
   }
   drop.addEventListener("dragover", (event) => { event.preventDefault(); drop.classList.add("over"); });
