@@ -44,7 +44,7 @@ print(plan.against, plan.can_be_done)
 SAID = MAKE + """
 from exam_web import wording
 with app.test_request_context('/'):
-    for words in ('`office back` lists copies', '`office look 0001051 --codes` says it', '`office printed X` <b>'):
+    for words in ('`office back` lists copies', '`office printed X` <b>'):
         print(wording.said(words))
 """
 TABLE = MAKE + """
@@ -397,7 +397,6 @@ class TestFaults(unittest.TestCase):
         done = subprocess.run([PYTHON, "-c", SAID, DESK], capture_output=True, text=True, check=True)
         self.assertEqual(done.stdout.splitlines(), [
             '<bdi><a href="/office">`office back`</a> lists copies</bdi>',
-            '<bdi><a href="/candidates/1051">`office look 0001051 --codes`</a> says it</bdi>',
             "<bdi>`office printed X` &lt;b&gt;</bdi>"])
 
     def test_a_mistake_of_the_desk_stands_on_the_page_and_in_the_terminal(self):
