@@ -50,9 +50,8 @@ def make(here: Desk) -> Flask:
     app.url_map.converters["int"] = Number
     wording.prepare(app)
     app.jinja_env.globals.update(
-        FEATURES=FEATURES, RUNNING=notebook.RUNNING, SHEETS=[*PAPERS],
-        has_handbook=office.HANDBOOK is not None, appeals=appeals, copy_key=proposals.copy_key,
-        last_day=appeals.last_day, tally=people_and_sittings, by_halls=on_paper.by_halls)
+        FEATURES=FEATURES, RUNNING=notebook.RUNNING, SHEETS=[*PAPERS], has_handbook=office.HANDBOOK is not None,
+        appeals=appeals, last_day=appeals.last_day, tally=people_and_sittings, by_halls=on_paper.by_halls)
     for screen in SCREENS:
         app.register_blueprint(screen)
     app.before_request(begin)
@@ -97,7 +96,8 @@ def problem(fault: Exception) -> ResponseReturnValue:
     elif isinstance(fault, HTTPException):
         if fault.code == 401:
             return (guard.page("visit"), 401) if request.method == "POST" else redirect(url_for("entering.page"))
-        said, status = escape(fault.description), fault.code or 500
+        status = fault.code or 500
+        said = wording.said(proposals.WRONG_DESK) if status == 500 else escape(fault.description)
     elif isinstance(fault, OSError) and fault.errno in beside.FULL:
         said, status = text("The disk is full: make room, for example in the folder {place}, and try again.",
                             place=beside.folder(desk().office.path, beside.DAYS)), 507
@@ -120,9 +120,8 @@ def listener(ports: Sequence[int]) -> socket.socket:
 
 def another_link(office: Office) -> str:
     """A new link to the desk that runs. Raises `Trouble` where none does."""
-    with turns.lock_file(office, LOCK) as lock:
-        if turns.try_lock(lock):
-            raise Trouble("no desk of this office runs: `office desk` opens one")
+    if not turns.is_taken(office, LOCK):
+        raise Trouble("no desk of this office runs: `office desk` opens one")
     return link_of_running(office)
 
 

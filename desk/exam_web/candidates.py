@@ -1,5 +1,5 @@
 """Candidates: the search, their notes, and the page of one. Appeals: the open ones by their last day, and one with what
-its grant would come to. Two papers at a second sitting for who has them; and two sessions at one time."""
+its grant would come to. Two papers at once, and a second sitting for who has them; two sessions at one time."""
 import sqlite3
 from collections.abc import Callable
 from functools import partial
@@ -32,7 +32,7 @@ Values = dict[str, str]
 def find() -> str | Response:
     """Whose number ends so, or whose name has all these words; one candidate alone is shown at once."""
     asked = request.args.get("q", "").strip()[:MOST_ASKED]
-    found = texts.find(view().reading.rows, asked)
+    found = texts.find(view().reading.rows, asked) if asked else []
     if asked.isascii() and asked.isdigit():
         rows = view().rows(f"{texts.CANDIDATES} WHERE printf('%07d', number) LIKE ?", [f"%{asked}"])
         found = lists.by_name(Person(*row) for row in rows)
@@ -75,14 +75,12 @@ def code(number: int) -> str:
 
 @pages.post("/candidates/<int:number>/note")
 def note(number: int) -> Response:
-    """Keeps the note on a candidate, or takes it away; no seat depends on it."""
     candidate_row(number)
     page_of: Page = ("candidates.page", {"number": number})
     known = notebook.notes(desk().office).get(f"{number:07}", "")
     given = as_known(checked(page_of, request.form, note=typed.REASON)["note"], known)
     if as_known(request.form.get("was", known), known) != known:
-        wrong = text("somebody has changed it meanwhile; it says: {note}", note=known or "–")
-        raise Wrong(page_of, note=wrong)
+        raise Wrong(page_of, note=text("somebody has changed it meanwhile; it says: {note}", note=known or "–"))
     notebook.take_notes(office(), {f"{number:07}": given})
     told = text("The note is kept.") if given else text("There is no note on this candidate.")
     tell_papers()
@@ -111,10 +109,9 @@ def slips(number: int | None = None) -> str:
 
 @appeal_pages.get("/appeals", endpoint="page")
 def appeals() -> str:
-    waiting = view().rows(f"{APPEALS} WHERE state = 1 {BY_DAY}")
-    rest = view().rows(f"{APPEALS} WHERE state <> 1 {BY_DAY} LIMIT ?", [MOST_SHOWN])
-    decided = view().count("SELECT count(*) FROM appeal WHERE state <> 1")
-    return render_template("appeals.html", waiting=waiting, rest=rest, decided=decided)
+    return render_template("appeals.html", waiting=view().rows(f"{APPEALS} WHERE state = 1 {BY_DAY}"),
+                           rest=view().rows(f"{APPEALS} WHERE state <> 1 {BY_DAY} LIMIT ?", [MOST_SHOWN]),
+                           decided=view().count("SELECT count(*) FROM appeal WHERE state <> 1"))
 
 
 def appeal_row(number: int, ref: str) -> sqlite3.Row:
@@ -124,9 +121,9 @@ def appeal_row(number: int, ref: str) -> sqlite3.Row:
 @appeal_pages.get("/appeals/<int:number>/<ref>")
 def one(number: int, ref: str) -> str:
     row = appeal_row(number, ref)
-    others = view().count("SELECT count(*) FROM appeal WHERE number = ?", [number]) - 1
     return render_template("appeal.html", row=row, member=view().reading.member(row["session"], f"{number:07}"),
-                           others=others, titles=facts.paper_titles(view().reading.rows))
+                           others=view().count("SELECT count(*) FROM appeal WHERE number = ?", [number]) - 1,
+                           titles=facts.paper_titles(view().reading.rows))
 
 
 @appeal_pages.get("/appeals/<int:number>/<ref>/if-granted")
@@ -143,7 +140,6 @@ def if_granted(number: int, ref: str) -> str:
 
 @clash_pages.get("/clashes", endpoint="page")
 def clashes() -> str:
-    """The sessions with two papers at and those who have them in one of these."""
     sessions = {each.code: each for each in sums(view()).values() if each.clashes}
     shown = sessions.get(request.args.get("session", "")) or next(iter(sessions.values()), None)
     found = Session(shown.code).clashes(MOST_SHOWN) if shown else []
@@ -161,7 +157,6 @@ def overlapping() -> str:
 
 @clash_pages.get("/clashes/<code>/<int:number>")
 def second(code: str, number: int) -> str | Response:
-    """The form for a second sitting: which paper, from when, and where."""
     shown, who = Session(code), f"{candidate_row(number)['number']:07}"
     member, missed = view().reading.member(code, who), view().reading.clashes(code, [who]).get(who)
     if not member or not missed:
@@ -195,7 +190,6 @@ def with_code(is_new: bool, values: Values) -> Step:
 
 
 def new_candidate(form: Form) -> Plan:
-    """Somebody whom the office does not know yet."""
     form_page: Page = ("candidates.find", {})
     values = checked(form_page, form, number="number", name="name")
     page: Page = ("candidates.page", {"number": int(values["number"])})
@@ -221,7 +215,6 @@ def lodge(form: Form) -> Plan:
 
 
 def decide(form: Form) -> Plan:
-    """A decision on an appeal, with its answer; which one it is must be chosen."""
     values, _ = candidate(form)
     found = appeal_row(int(values["number"]), form.get("ref", ""))
     page: Page = ("appeals.one", {"number": found["number"], "ref": found["ref"]})

@@ -102,8 +102,7 @@ def back(key: str) -> Response:
         other = text("Nothing is changed: the office is another than the page showed. This is how it stands now.")
         return lead("office.copy", other, "bad", key=key)
     if not is_back:
-        wrong = text("tick each of these, or leave the office as it is")
-        raise Wrong(("office.copy", {"key": key}), lost=wrong)
+        raise Wrong(("office.copy", {"key": key}), lost=text("tick each of these, or leave the office as it is"))
     g.visit.backup = None
     done = [text("The office is as in {name}.", name=what) if copies.is_brought(path) else
             text("The office is as it was on {when}.", when=when)]
@@ -134,14 +133,12 @@ def school() -> Response:
 
 @pages.get("/handbook")
 def handbook() -> str:
-    """The handbook as it lies beside the desk, in its chapters."""
     _, title, first, *parts = re.split("^#+ (.+)\n", (HANDBOOK or abort(404)).read_text("utf-8"), flags=re.M)
     return render_template("handbook.html", title=title, first=first, chapters=zip(parts[::2], parts[1::2]))
 
 
 @pages.post("/office/keep")
 def keep() -> Response:
-    """Has candidates served at a port, or no longer."""
     what, port = request.form.get("what"), request.form.get("port", 0, int)
     if what == "stop":
         keeping.stop(office())

@@ -105,8 +105,7 @@ class Plan:
     against: list[str] = field(default_factory=list)  # it in words, and its place in a file; or what the desk refuses
     moved_on: list[list[str]] | None = None  # what the log has since, where the office was another
     is_done: bool = False
-    as_promised: bool = True
-    copy: str = ""  # the path of that of before
+    carried: changing.Carried | None = None  # what became of the steps
     lodged: str = ""  # the reference of an appeal, on the copy too
 
     @property
@@ -150,7 +149,6 @@ PLANS: dict[str, Callable[[Form], Plan]] = {}  # what forms ask, by the name of 
 
 
 def command(word: str, names: Sequence[str], values: Mapping[str, str]) -> Step:
-    """A command of the program with the values of these names."""
     return Step((word, *(values[name] for name in names)))
 
 
@@ -225,15 +223,14 @@ def carry_out(plan: Plan, here: Desk, who: Office) -> None:
         plan.is_done = plan.grant(who) != []
         return
     try:
-        carried = changing.carry_out(who, plan.steps, plan.made_from, plan.promised, plan.command,
-                                     partial(setattr, plan, "stage"))
+        plan.carried = changing.carry_out(who, plan.steps, plan.made_from, plan.promised, plan.command,
+                                          partial(setattr, plan, "stage"))
     except Stale:
         since = plan.since
         rehearse(plan, here, who)
         plan.moved_on = done_since(who, since)[-MOST_LINES:]
         return
-    plan.take(carried.answers)
-    plan.copy, plan.as_promised = carried.copy or "", carried.as_promised is not False
+    plan.take(plan.carried.answers)
     plan.is_done = not plan.refusal
     if plan.is_done:
         plan.done()
@@ -257,12 +254,13 @@ def page(key: str) -> str:
     plan: Plan = g.visit.proposals.get(key) or abort(404)
     if plan.is_working:
         return render_template("working.html", p=plan)
-    kept, following = copies.listed(desk().office) if plan.copy else [], None
+    copy, following = plan.carried and plan.carried.copy, None
+    kept = copies.listed(desk().office) if copy else []
     if plan.is_done and plan.asked.form == "decide":
         following = view().row(f"{APPEALS} WHERE state = 1 AND day > ? {BY_DAY}", [desk().office.today().isoformat()])
-    since = [copies.when_and_what(each) for each in itertools.takewhile(lambda each: each != plan.copy, kept)]
+    since = [copies.when_and_what(each) for each in itertools.takewhile(lambda each: each != copy, kept)]
     return render_template("proposal.html", p=plan, most=MOST_ROWS, next_appeal=following, since=since,
-                           has_copy=plan.copy in kept)
+                           copy=copy_key(copy) if copy in kept else "")
 
 
 @pages.post("/proposals/<key>/do")
@@ -272,8 +270,7 @@ def do(key: str) -> Response:
     with plan.lock:  # a second click does nothing
         if plan.can_be_done:
             if plan.ticked() and not request.form.get("tick"):
-                wrong = text("tick this, or leave the office as it is")
-                raise Wrong(("proposals.page", {"key": key}), tick=wrong)
+                raise Wrong(("proposals.page", {"key": key}), tick=text("tick this, or leave the office as it is"))
             work(plan, carry_out)
     return lead("proposals.page", key=key)
 

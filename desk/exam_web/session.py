@@ -31,7 +31,6 @@ class Session:
     """A session of the view that the request shows."""
 
     def __init__(self, code: str) -> None:
-        """Answers 404 where there is no such session."""
         self.code, self.sums = code, sums(view()).get(code) or abort(404)
         self.page: Page = ("session.page", {"code": code})
         self.halls = {each.hall: each for each in facts.openings(view().reading.rows, code)}  # that are open
@@ -43,11 +42,9 @@ class Session:
         return "session.hall", {"code": self.code, "hall": hall}
 
     def taken(self) -> dict[str, int]:
-        """How many sit in each hall."""
         return dict(view().rows("SELECT hall, count(*) FROM seat WHERE session = ? GROUP BY hall", [self.code]))
 
     def papers(self) -> list[sqlite3.Row]:
-        """The papers, each with how many are entered."""
         return view().rows("SELECT paper.code AS code, title, minutes, requires, "
                            "(SELECT count(*) FROM entry WHERE paper = paper.code AND live = 1) AS entered "
                            "FROM paper WHERE session = ? ORDER BY paper.code", [self.code])
@@ -111,7 +108,6 @@ def standing(found: Opening) -> Rows:
 
 @pages.get("/papers/<paper>", endpoint="paper")
 def paper_page(paper: str) -> str:
-    """The form that moves or changes a paper."""
     row = view().row("SELECT * FROM paper WHERE code = ?", [paper]) or abort(404)
     return render_template("paper.html", row=row, s=Session(row["session"]).sums, sessions=[*sums(view()).values()])
 
@@ -196,8 +192,11 @@ def note_printed(code: str) -> Response:
     return lead("session.page", told, code=code)
 
 
-def opening(form: Form, page: Page, shown: Session) -> Plan:
-    """A hall that is to be open, which was chosen or which the office does not know yet."""
+def opening(form: Form, page: Page | None = None) -> Plan:
+    """A hall that is to be open, which was chosen or which the office does not know yet. The form of one that is open
+    says so by `at`: it stands on the page of that hall."""
+    shown = Session(form.get("session", ""))
+    page = page or (shown.hall_page(form.get("hall", "")) if "at" in form else shown.page)
     is_new = form.get("new_hall", "").strip() != ""
     fields = {"new_hall": "hall", "new_title": "title", "new_features": "features"} if is_new else {"hall": "hall"}
     values = checked(page, form, **fields, desks="desks", until="until", reserved="reserved")
@@ -212,12 +211,6 @@ def opening(form: Form, page: Page, shown: Session) -> Plan:
                 command=", ".join([*(step.title() for step in new), " ".join(named)]))
 
 
-def open_hall(form: Form) -> Plan:
-    """The form of a hall that is open says so by `at`: it stands on the page of that hall."""
-    shown = Session(form.get("session", ""))
-    return opening(form, shown.hall_page(form.get("hall", "")) if "at" in form else shown.page, shown)
-
-
 def close_hall(form: Form) -> Plan:
     """A hall that cannot be used; with another in its place where the form on the first rehearsal's page asks it."""
     shown = Session(form.get("session", ""))
@@ -225,7 +218,7 @@ def close_hall(form: Form) -> Plan:
     plan = Plan({"session": shown.code}, [], shown.page, "lost")
     if first:
         page = ("proposals.page", {"key": first}) if first in g.visit.proposals else shown.page
-        plan = opening(form, page, shown)
+        plan = opening(form, page)
         if plan.values["hall"] == lost:
             raise Wrong(page, hall=text("this is the hall that is lost"))
     plan.values["lost"], plan.fields[25], plan.halls = lost, "lost", shown.choices()
@@ -259,5 +252,5 @@ def change_session(form: Form) -> Plan:
     return plan
 
 
-PLANS.update(open=open_hall, close=close_hall, session=change_session, paper=partial(change_row, "papers"),
+PLANS.update(open=opening, close=close_hall, session=change_session, paper=partial(change_row, "papers"),
              hall=partial(change_row, "halls"))

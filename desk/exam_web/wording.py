@@ -54,7 +54,8 @@ def said(words: str | Said) -> Markup:
 
 def refused(trouble: Trouble) -> Markup:
     """Why something is not done, behind the file or the place that it speaks of."""
-    return Markup("{}: {}").format(shown(trouble.place), said(trouble.sentence)) if trouble.place else said(trouble.sentence)
+    words = said(trouble.sentence)
+    return Markup("{}: {}").format(shown(trouble.place), words) if trouble.place else words
 
 
 def link(address: str, value: object) -> Markup:

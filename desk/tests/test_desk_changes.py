@@ -138,17 +138,32 @@ class TestRehearsal(DeskSchool):
         self.assertEqual(self.log().count("withdraw 0001051 PH-1\t0"), 1)
         self.assertEqual(self.log().count("withdraw 0001051 PH-1\tbegins"), 1)
 
+    def test_a_result_that_was_not_promised(self):
+        """The program does something else to the office than to the copy."""
+        self.end()
+        self.environment["EXAMOFFICE"] = self.write("program", (
+            f'#!/bin/sh\n[ "$2 $5" = "{self.path} withdraw" ] && set -- "$1" "$2" "$3" "$4" withdraw 0001051 EN-1\n'
+            f'exec {sample.built_program()} "$@"\n'))
+        os.chmod(self.environment["EXAMOFFICE"], 0o700)
+        self.start()
+        page, _ = self.browser.post("/propose/withdraw", "/candidates/1051", number="0001051", paper="PH-1")
+        self.browser.post(page + "/do", page)
+        self.assertIn("The result is not what the rehearsal showed. This should never be", self.browser.words(page))
+
     def test_another_officer_meanwhile(self):
         form = {"number": "0001051", "paper": "PH-1"}
         for state, is_old in ({"state": "0" * 64}, True), ({}, False):
             page, _ = self.browser.post("/propose/withdraw", "/candidates/1051", **form, **state)
             self.assertEqual("has changed since the page that you came from" in self.browser.words(page), is_old)
         other = self.rows("SELECT number FROM entry WHERE paper = 'PH-1' AND number <> 1051")[0][0]
+        with open(os.path.join(self.desk, "log"), "a", encoding="utf-8") as log:
+            log.write("2026-01-01 00:00:00\tada\twithdraw 0001051 EN-1\t0\twithdrawn\n")  # before the rehearsal
         self.office("withdraw", f"{other:07}", "PH-1")
         before = self.seats()
         self.browser.post(page + "/do", page)
         self.assertIn("nothing was done", self.browser.words(page))
         self.assertEqual(self.browser.words(page).count(f"withdraw {other:07} PH-1"), 1)  # and not that it began
+        self.assertNotIn("EN-1", self.browser.words(page))
         self.assertEqual(self.seats(), before)
         self.browser.post(page + "/do", page)  # from what is shown now
         self.assertIn("What changed", self.browser.words(page))
@@ -160,8 +175,8 @@ class TestRehearsal(DeskSchool):
         self.end()
         slow = self.write("slow", "")
         self.environment["EXAMOFFICE"] = self.write("program", (
-            f'#!/bin/sh\n[ "$2" = {self.path} ] || case "$*" in *" withdraw "*) while [ -e {slow} ]; do sleep 0.05; done;; '
-            f'esac\nexec {sample.built_program()} "$@"\n'))
+            f'#!/bin/sh\n[ "$2" = {self.path} ] || case "$*" in *" withdraw "*)\n'
+            f'while [ -e {slow} ]; do sleep 0.05; done;; esac\nexec {sample.built_program()} "$@"\n'))
         os.chmod(self.environment["EXAMOFFICE"], 0o700)
         self.start()
         self.browser.get("/")
@@ -396,6 +411,12 @@ class TestNotNow(DeskSchool):
         self.browser.post(page + "/do", page)
         self.assertEqual(self.left(page, done=True)[0], "/sessions/MON-AM")
 
+    def test_of_forms_of_one_name_it_leads_to_the_one_that_was_left(self):
+        page, _ = self.browser.post("/propose/withdraw", "/candidates/1051", number="0001051", paper="PH-1", key="PH-1")
+        path, text = self.left(page)
+        self.assertEqual(path.partition("#")[2], "withdraw-PH-1")
+        self.assertEqual(text.count('id="withdraw-PH-1"'), 1)
+
 
 class TestBack(DeskSchool):
     def copy(self):
@@ -405,7 +426,9 @@ class TestBack(DeskSchool):
         before = self.seats()
         self.office("withdraw", "0001051", "PH-1")
         key = self.copy()
-        self.assertIn("left a session", self.browser.words(f"/office/copies/{key}"))
+        words = self.browser.words(f"/office/copies/{key}")
+        self.assertIn("left a session", words)
+        self.assertRegex(words, r"What was done since \d{4}-\d\d-\d\d \d\d:\d\d:\d\d \S+ *: withdraw 0001051 PH-1")
         self.browser.post(f"/office/copies/{key}/back", f"/office/copies/{key}")
         self.assertEqual(self.seats(), before)
         self.assertIn("(ab, desk)\tback\t0\tas it was", self.log())

@@ -1,5 +1,6 @@
 """Who comes in at the desk in a browser, and what a page may do: each threat with a test."""
 import contextlib
+import fcntl
 import json
 import os
 import pathlib
@@ -29,6 +30,23 @@ from exam_desk.office import Office
 from exam_web import application, desk, guard
 app = application.make(desk.Desk(Office('none.db', 'none', datetime.date.today, 'x'), '127.0.0.1:1', '/x', False))
 """
+WRONG = MAKE + """
+from flask import g
+from exam_web import proposals
+def fail(*_):
+    raise KeyError('a mistake of the desk')
+with app.test_request_context('/'):
+    g.visit = guard.Visit('ab', 'x')
+    plan = proposals.Plan({}, [], ('season.page', {}))
+    proposals.work(plan, fail)
+print(plan.against, plan.can_be_done)
+"""
+SAID = MAKE + """
+from exam_web import wording
+with app.test_request_context('/'):
+    for words in ('`office back` lists copies', '`office printed X` <b>'):
+        print(wording.said(words))
+"""
 TABLE = MAKE + """
 print(json.dumps([[rule.rule, sorted(rule.methods - {'HEAD', 'OPTIONS'})] for rule in app.url_map.iter_rules()]))
 """
@@ -49,16 +67,18 @@ for seconds in (5 * 3600, 5 * 3600, 8 * 3600 + 1):
     found.append(len(here.visits))
 print(*found)
 """
-FULL = MAKE + """
-import errno
+FAULTS = MAKE + """
+import errno, logging, os
+app.logger.setLevel(logging.CRITICAL)
 app.extensions['guard'].visits = {guard.digest('secret'): guard.Visit('ab', 'x')}
 client = app.test_client()
 client.set_cookie('localhost', 'desk', 'secret')
-def full():
-    raise OSError(errno.ENOSPC, 'No space left on device', '/there')
-app.view_functions['season.page'] = full
-answer = client.get('/')
-print(answer.status_code, answer.text)
+def fail():
+    raise fault
+app.view_functions['season.page'] = fail
+for fault in (*(OSError(each, os.strerror(each), '/there') for each in (errno.ENOSPC, errno.EACCES)), KeyError('x')):
+    answer = client.get('/')
+    print(answer.status_code, ' '.join(answer.text.split()))
 """
 
 
@@ -275,6 +295,9 @@ class TestProcess(DeskSchool):
     def test_a_link_of_no_desk(self):
         self.end()
         self.assertIn("no desk of this office runs", self.refused("desk", "--link"))
+        with open(os.path.join(self.desk, "desk.lock"), "rb") as lock:  # of one that begins
+            fcntl.flock(lock, fcntl.LOCK_EX)
+            self.assertIn("a desk of this office begins or ends just now", self.refused("desk", "--link"))
 
     def test_it_leaves_nothing_behind(self):
         self.browser.get("/candidates/1051")  # `serve` runs now
@@ -297,11 +320,14 @@ class TestProcess(DeskSchool):
 
     def test_after_a_kill_serve_ends_and_the_next_command_clears(self):
         self.browser.get("/candidates/1051")
-        children = self.children()
+        children, other = self.children(), self.another()
         self.end(signal.SIGKILL)
         sample.until(lambda: not any(self.runs(child) for child in children))
         self.office("summary")
         self.assertEqual(os.listdir(os.path.join(self.desk, "tmp")), [])
+        self.start()
+        self.browser.token = other.token  # of a link to the desk that was killed
+        self.assertEqual(self.browser.enter().status, 422)
 
     def children(self):
         with open(f"/proc/{self.process.pid}/task/{self.process.pid}/children", encoding="ascii") as file:
@@ -359,10 +385,24 @@ class TestIdle(unittest.TestCase):
 
 
 @unittest.skipUnless(HAS_FLASK, "Flask or waitress is missing")
-class TestFull(unittest.TestCase):
-    def test_a_full_disk_says_where_room_can_be_made(self):
-        done = subprocess.run([PYTHON, "-c", FULL, DESK], capture_output=True, text=True, check=True)
-        self.assertRegex(done.stdout, "(?s)^507 .*The disk is full: make room, for example in the folder .*/days")
+class TestFaults(unittest.TestCase):
+    def test_a_full_disk_says_where_room_can_be_made_and_another_fault_its_place(self):
+        done = subprocess.run([PYTHON, "-c", FAULTS, DESK], capture_output=True, text=True, check=True)
+        full, other, mistake = done.stdout.splitlines()
+        self.assertRegex(full, "^507 .*The disk is full: make room, for example in the folder .*/days")
+        self.assertRegex(other, "^500 .*>/there: Permission denied<")
+        self.assertRegex(mistake, "^500 .*the desk is wrong here; the office is as the log says")
+
+    def test_a_command_leads_to_the_page_that_does_what_it_does(self):
+        done = subprocess.run([PYTHON, "-c", SAID, DESK], capture_output=True, text=True, check=True)
+        self.assertEqual(done.stdout.splitlines(), [
+            '<bdi><a href="/office">`office back`</a> lists copies</bdi>',
+            "<bdi>`office printed X` &lt;b&gt;</bdi>"])
+
+    def test_a_mistake_of_the_desk_stands_on_the_page_and_in_the_terminal(self):
+        done = subprocess.run([PYTHON, "-c", WRONG, DESK], capture_output=True, text=True, check=True)
+        self.assertEqual(done.stdout, "['the desk is wrong here; the office is as the log says'] False\n")
+        self.assertIn("KeyError: 'a mistake of the desk'", done.stderr)
 
 
 @unittest.skipUnless(HAS_FLASK, "Flask or waitress is missing")

@@ -241,6 +241,7 @@ class TestPrinting(DeskSchool):
     def test_how_a_hall_is_drawn(self):
         page = "/sessions/MON-AM/halls/GYM"
         before = self.seats()
+        self.assertIn('name="across-GYM" value="7"', self.browser.get(page))  # of 24 desks, where nobody has said it
         where, _ = self.browser.post("/sessions/MON-AM/draw", page, hall="GYM", **self.standing("3", "down-and-up"))
         self.assertEqual(where, "/sessions/MON-AM#hall-GYM")
         self.assertEqual(self.office("rows"), "GYM: rows of 3, down-and-up\n")

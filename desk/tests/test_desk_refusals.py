@@ -106,6 +106,7 @@ class TestRefusals(DeskSchool):
         _, text = self.browser.post("/propose/close", SESSION, 422, **MONDAY, lost="R14")
         self.assertIn(sentence(25), text)
         self.browser.post("/propose/open", SESSION, 404, session="NO-AM", hall="R14", desks="3", until="14:00")
+        self.browser.post("/propose/open", SESSION, 404, **MONDAY, at="", hall="R14", desks="x", until="14:00")  # no form
 
     def test_second_sittings(self):
         for values, said, field in (

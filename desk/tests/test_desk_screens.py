@@ -173,6 +173,8 @@ class TestNewCandidate(DeskSchool):
         text = self.browser.get("/candidates")
         self.assertNotIn('name="paper" value="CS-1"', text)
         self.assertIn('name="paper" value="PH-1"', text)
+        asked = self.browser.get("/candidates/1051").partition("Enter for")[2].partition("</select>")[0]
+        self.assertEqual(re.findall('<option value="([^"]+)"', asked), ["BI-1", "CH-1", "MA-1", "MA-2", "EN-2", "FR"])
 
     def test_a_number_without_its_zeros(self):
         page, _ = self.browser.post("/propose/candidate", "/candidates", **{**self.NEW, "number": " 9001 "})
@@ -401,7 +403,7 @@ class TestSchool(DeskSchool):
 
 
 class TestLetters(unittest.TestCase):
-    def test_they_are_as_large_as_the_browser_is_told(self):
+    def test_they_are_as_large_as_the_browser_has_them(self):
         """Those in the picture of a hall are as large as its desks."""
         rules = re.findall(r"([^{}]+)\{([^{}]*)\}", (DESK / "exam_web/static/desk.css").read_text("utf-8"))
         self.assertEqual({where.split()[0] for where, what in rules if re.search(r"font[^;]*\dpx", what)}, {".grid"})

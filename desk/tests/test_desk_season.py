@@ -130,6 +130,50 @@ class TestWhatNeedsAPerson(DeskSchool):
         self.assertIn('<li class="now"><span class="when">by <time datetime="2027-06-06">', self.browser.get("/"))
 
 
+class TestDays(DeskSchool):
+    """MON-AM and MON-PM are on 7 June 2027, TUE-AM a day later."""
+
+    def on(self, today):
+        """The page of the season on this day."""
+        self.end()
+        self.environment["TODAY"] = today
+        self.start()
+        return self.browser.get("/")
+
+    def test_the_last_days_to_lodge_of_two_weeks(self):
+        for today, ends in (("2027-05-20", {"2027-05-28": ["MON-AM", "MON-PM"], "2027-05-29": ["TUE-AM"],
+                                            "2027-06-02": ["MON-AM", "MON-PM"], "2027-06-03": ["TUE-AM"]}),
+                            ("2027-06-05", {"2027-06-05": ["MON-AM", "MON-PM"], "2027-06-06": ["TUE-AM"]}),
+                            ("2027-06-07", {})):
+            card = self.on(today).partition('id="ends"')[2]
+            rows = re.findall(r'<th scope="row"><time datetime="([^"]+)">(.*?)</tr>', card)
+            self.assertEqual({day: re.findall(r'/sessions/([^"]+)"', row) for day, row in rows}, ends, today)
+
+    def test_how_soon_an_appeal_must_be_decided(self):
+        """The last day for MON-AM is 6 June."""
+        self.office("lodge", "0001051", "MON-AM", "hall", "PC1", "")
+        for today, level, word in (("2027-06-02", "soon", "by"), ("2027-06-03", "now", "by"),
+                                   ("2027-06-06", "now", "by"), ("2027-06-07", "late", "too late since")):
+            self.assertIn(f'<li class="{level}"><span class="when">{word} <time datetime="2027-06-06">', self.on(today))
+
+    def test_a_week_after_a_session_nobody_asks_any_more_who_was_absent(self):
+        for today, asked in ("2027-06-15", True), ("2027-06-16", False):
+            self.assertEqual("Nobody has noted yet who was absent" in self.on(today), asked, today)
+
+    def test_weeks_have_a_weekend_where_one_has_a_session(self):
+        days = r'<section class="date[^"]*"><h3><time datetime="([^"]+)"'
+        self.assertEqual(re.findall(days, self.browser.get("/")), [f"2027-06-{day:02}" for day in range(7, 12)])
+        self.office("import", "sessions", self.write("sessions.csv", "session,date,start\nSAT,2027-06-26,09:00\n"))
+        self.assertEqual(re.findall(days, self.browser.get("/")),
+                         [f"2027-06-{day:02}" for day in (*range(7, 14), *range(21, 28))])
+
+    def test_a_session_leads_to_its_neighbours(self):
+        for session, neighbours in (("MON-AM", [("next", "MON-PM")]), ("TUE-AM", [("prev", "MON-PM")]),
+                                    ("MON-PM", [("prev", "MON-AM"), ("next", "TUE-AM")])):
+            found = re.findall(r'/sessions/([^"]+)" rel="(\w+)"', self.browser.get(f"/sessions/{session}"))
+            self.assertEqual([(word, other) for other, word in found], neighbours)
+
+
 class TestClashes(SmallSchool):
     ONE, TWO = (f"{words} with two papers at once and no appeal open or granted in" for words in ("1 candidate", "2 candidates"))
 

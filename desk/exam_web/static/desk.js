@@ -136,7 +136,9 @@ function takeFiles() {
   if (!drop) return;
   for (const input of drop.querySelectorAll("[type=file]")) {
     input.addEventListener("change", () => {
-      if (input.files.length) send(drop, input.webkitdirectory ? tables([...input.files]) : [...input.files]);
+      const found = [...input.files];
+      input.value = "";  // so that a file which nothing was taken of can be chosen again
+      if (found.length) send(drop, input.webkitdirectory ? tables(found) : found);
     });
   }
   drop.addEventListener("dragover", (event) => { event.preventDefault(); drop.classList.add("over"); });
@@ -151,7 +153,11 @@ function takeFiles() {
 }
 takeFiles();
 
-// each hall has a list of its own to tick who is absent: one is sent with all
+// each hall has a list of its own to tick who is absent: one is sent with all; who stands in two is ticked in both
+addEventListener("change", (event) => {
+  if (event.target.name !== "absent") return;
+  for (const box of document.querySelectorAll(`input[name=absent][value="${event.target.value}"]`)) box.checked = event.target.checked;
+});
 addEventListener("formdata", (event) => {
   if (!event.target.action.endsWith("/absent")) return;
   for (const box of document.querySelectorAll("input[name=absent]")) {
