@@ -57,7 +57,8 @@ def would_do(office: Office, texts: Mapping[str, bytes]) -> tuple[list[str], lis
     steps = [Step(("import", kind, f"{kind}.csv"), text) for kind, text in texts.items()]
     with changing.rehearse(office, steps) as rehearsal:
         if refused := changing.refused_of(rehearsal.answers):
-            return [f"{refused.step.words[-1]}: {'; '.join(refused.explained(office))}"], []
+            means = "; ".join(map(str.strip, refused.explained(office)))
+            return [f"{refused.step.words[-1]}: {means or refused.first_line()}"], []
         with Reading(office, rehearsal.before) as before, Reading(office, rehearsal.after) as after:
             met = effects.Effects(before, after)
             return [], met.said(effects.headlines(met.met), [], MOST_SHOWN)

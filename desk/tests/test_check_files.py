@@ -174,6 +174,26 @@ class Verdicts(sample.SampleSchool):
         self.assertIn(line, said)
         self.assertRegex(said, "\n7 files, [1-9][0-9]* mistakes?, 0 notes\n$")
 
+    def checked(self, **texts):
+        with tempfile.TemporaryDirectory(dir=self.folder) as folder:
+            for kind, text in texts.items():
+                self.write(os.path.join(folder, f"{kind}.csv"), f"{','.join(files.HEADERS[kind])}\n{text}")
+            return checking.check_folder(self.value, folder)
+
+    def test_all_mistakes_and_notes_are_counted(self):
+        """Of seven on a column five are shown. What the program alone refuses is a mistake, too."""
+        lines, counts = self.checked(halls="".join(f"N{place},Hall ,x\n" for place in range(7)),
+                                     candidates="0009001,Zed,\n0009002,Zoe,\n")
+        self.assertEqual({"files": 2, "mistakes": 7, "codes": 2, "notes": 7}, counts)
+        self.assertEqual((["halls.csv: .. and 2 more lines on features", "halls.csv: .. and 2 more lines on title"], 13),
+                         ([line for line in lines if " more " in line], len(lines)))
+        lines, counts = self.checked(sessions="".join(f"S{place},2027-06-07,09:00\n" for place in range(398)))
+        self.assertEqual(({"files": 1, "mistakes": 1, "codes": 0, "notes": 0}, [
+            "sessions.csv: a limit would be passed, or the file is too long; the handbook lists the limits"]), (counts, lines))
+        with mock.patch("exam_desk.refusals.SENTENCES", {}):
+            lines, _ = self.checked(sessions="".join(f"S{place},2027-06-07,09:00\n" for place in range(398)))
+        self.assertEqual(["sessions.csv: refused 20"], lines)
+
     def test_a_folder_in_the_place_of_a_file(self):
         os.mkdir(os.path.join(self.folder, "halls.csv"))
         self.assertIn("halls.csv: is no file, but a folder", self.refused("check-files", "."))

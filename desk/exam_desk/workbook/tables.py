@@ -217,7 +217,7 @@ class Headed:
     def tell_columns(self) -> None:
         """What is wrong with a column, or that it is hidden or not read."""
         row, columns = self.header.row, {place: dict[int, Cell]() for place in self.head}
-        for line, place, cell in [(line, *each) for line, cells in self.below.items() for each in cells.items()]:
+        for line, place, cell in ((line, *each) for line, cells in self.below.items() for each in cells.items()):
             if seen(cell):
                 columns.setdefault(place, {})[line] = cell
         for place, cells in sorted(columns.items()):
