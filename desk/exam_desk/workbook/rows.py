@@ -75,10 +75,10 @@ class Table(Headed):
     def filled_by(self, top: int, left: int, bottom: int, right: int) -> dict[tuple[int, int], Cell]:
         """What a merged cell says for its rows. A value below it is one that nobody sees."""
         reach, rows = f"{letters_of(left)}{top}:{letters_of(right)}{bottom}", range(top, min(bottom, self.last) + 1)
-        under = [(row, place, cell) for row in rows for place, cell in sorted(self.below.get(row, {}).items())
-                 if place in self.places and left <= place <= right and (row, place) != (top, left) and seen(cell)]
-        for row, place, cell in under:
-            self.mistake(row, place, f"{shown_of(cell)!r} is hidden by the merged cells {reach}: split them", "covered")
+        under = [(row, place, value) for row in rows for place, value in sorted(self.below.get(row, {}).items())
+                 if place in self.places and left <= place <= right and (row, place) != (top, left) and seen(value)]
+        for row, place, value in under:
+            self.mistake(row, place, f"{shown_of(value)!r} is hidden by the merged cells {reach}: split them", "covered")
         cell = seen(self.sheet.rows.get(top, {}).get(left))
         if cell and left != right:
             self.mistake(top, left, f"{reach} is merged over columns: split it")
