@@ -45,7 +45,7 @@ def check_folder(office: Office, folder: str) -> tuple[list[str], Counter[str]]:
             why = "none of the seven names, so it is not looked at" if name.lower().endswith(".csv") else \
                 "a workbook: `office read` makes the files of it"
             lines.append(f"NOTE: {name} is {why}")
-    if texts and os.path.exists(office.path) and not counts["mistakes"] + counts["codes"]:
+    if os.path.exists(office.path) and not counts["mistakes"] + counts["codes"]:
         refused, met = would_do(office, texts)
         counts.update(mistakes=len(refused), notes=len(met))
         lines += [*refused, *(f"NOTE: once imported: {line}" for line in met)]

@@ -193,6 +193,8 @@ class Verdicts(sample.SampleSchool):
         with mock.patch("exam_desk.refusals.SENTENCES", {}):
             lines, _ = self.checked(sessions="".join(f"S{place},2027-06-07,09:00\n" for place in range(398)))
         self.assertEqual(["sessions.csv: refused 20"], lines)
+        self.assertEqual(([], 0), (self.checked()[0], self.checked()[1]["files"]))
+        self.assertEqual("office: none of the seven files is there\n", self.refused("check-files", "."))
 
     def test_a_folder_in_the_place_of_a_file(self):
         os.mkdir(os.path.join(self.folder, "halls.csv"))
