@@ -107,10 +107,7 @@ def records(text: bytes, comma: bytes = b",") -> Iterator[Record]:
         if fields:
             if not closed:
                 fields[-1] = fields[-1][:-1]
-            row: list[str | bytes] = fields  # type: ignore[assignment]
-            for place, field in enumerate(fields):  # a row can have a million texts: each goes as its bytes come
-                row[place] = field.encode("latin-1")
-            yield Record(line, tuple(row), closed)  # type: ignore[arg-type]
+            yield Record(line, tuple([field.encode("latin-1") for field in fields]), closed)
         line = reader.line_num + 1
 
 
