@@ -6,7 +6,7 @@ becomes a path: it is compared and shown. A zip is read in memory and never unpa
 import datetime
 import itertools
 import zipfile
-from collections import Counter, defaultdict
+from collections import Counter
 from collections.abc import Callable, Iterable, Iterator, Mapping
 from dataclasses import dataclass, field, replace
 from functools import partial
@@ -257,12 +257,11 @@ def asks(upload: Upload, looked: Mapping[str, Looked]) -> bool:
 def corrected(kind: str, content: bytes, faults: list[Mistake], form: Form) -> tuple[bytes, int]:
     """The file with what was typed, or with all clear cures, and how many of its rows are other ones; every other value
     keeps its bytes."""
-    wrong, rows, others = defaultdict[int, list[Mistake]](list), [files.HEADERS[kind]], 0
-    for each in faults:
-        wrong[each.line].append(each)
+    wrong = {line: [*found] for line, found in itertools.groupby(faults, lambda each: each.line)}
+    rows, others = [files.HEADERS[kind]], 0
     for record in below_header(content):
         was = [part.decode("utf-8", "surrogateescape") for part in record.fields]
-        fields = corrected_row(kind, was, wrong[record.line], form)
+        fields = corrected_row(kind, was, wrong.get(record.line, []), form)
         others += fields != was
         rows += [fields] * (fields != [])
     return files.written(rows).encode("utf-8", "surrogateescape"), others

@@ -193,6 +193,10 @@ class Verdicts(sample.SampleSchool):
         with mock.patch("exam_desk.refusals.SENTENCES", {}):
             lines, _ = self.checked(sessions="".join(f"S{place},2027-06-07,09:00\n" for place in range(398)))
         self.assertEqual(["sessions.csv: refused 20"], lines)
+        papers = (self.examples / "papers.csv").read_text("utf-8").splitlines(True)[1:]
+        lines, counts = self.checked(papers="".join(line.replace(",", ",New ", 1) for line in papers))
+        self.assertEqual((1, 0), (counts["notes"], counts["mistakes"]))
+        self.assertRegex("\n".join(lines), "^NOTE: once imported: 10 values of rows changed: (.* title .* -> New .*; ){4}.* -> New .* and 5 more$")
         self.assertEqual(([], 0), (self.checked()[0], self.checked()[1]["files"]))
         self.assertEqual("office: none of the seven files is there\n", self.refused("check-files", "."))
 
@@ -299,6 +303,11 @@ class Words(unittest.TestCase):
             "2 candidates have this access code", "2 candidates have this access code", "the same as line 3; it counts once",
             "may be what a spreadsheet made of a code such as 1E5, or will make of it",
             "has a space at an end, or a sign that no keyboard writes: is it meant?"])
+
+    def test_a_code_that_a_spreadsheet_makes_a_number_of(self):
+        for code, is_noted in ((b"1E4", True), (b"10000", True), (b"120000", True), (b"1000", False), (b"1230000", False),
+                               (b"10000A", False), (b"E4", False)):
+            self.assertEqual(is_noted, mistakes.note_on("paper", code) != "", code)
 
     def test_one_access_code_for_all(self):
         """As where a spreadsheet filled it down: a note on each, and no row is compared with each other one."""

@@ -55,10 +55,9 @@ class Table(Headed):
         texts = [row for row, cell in cells if AS_TEXT.fullmatch(bare(cell.text))]
         for row, cell in cells if texts else ():
             if cell.kind == "date" and cell.text[8:10] <= "12":
-                beside = place_name(self.sheet, texts[0], place)
-                text = f"date {shown_of(cell)}: a true date, but {beside} is a text: such a mixture arises where a " \
-                       "spreadsheet turns day and month round; type these dates again in the form YYYY-MM-DD"
-                self.mistake(row, place, text, "mixed")
+                self.mistake(row, place, f"date {shown_of(cell)}: a true date, but {place_name(self.sheet, texts[0], place)}"
+                             " is a text: such a mixture arises where a spreadsheet turns day and month round; type these "
+                             "dates again in the form YYYY-MM-DD", "mixed")
 
     def filled_cells(self) -> dict[tuple[int, int], Cell]:
         """What the cells that are merged downwards say for the rows below their first."""
