@@ -34,7 +34,7 @@ from exam_web.proposals import PLANS, Plan
 from exam_web.wording import many, said, shown, text
 
 pages = Blueprint("files", __name__)
-MOST_MEMBERS, MOST_NAME = 64, 80  # of a zip; letters that are shown
+MOST_MEMBERS, MOST_NAME = 64, 80  # of a zip with the files before it; letters that are shown
 NO_TABLE = (".pdf", ".doc", ".docx", ".odt", ".rtf", ".pages", ".numbers", ".jpg", ".jpeg", ".png", ".gif", ".webp",
             ".heic")
 HIDDEN = (".", "~$")  # how names begin of what macOS adds, and of what Excel keeps beside a workbook that is open
@@ -116,7 +116,7 @@ def parts(upload: Upload, storages: Iterable[FileStorage]) -> Iterator[tuple[str
 
 def members(upload: Upload, name: str, archive: zipfile.ZipFile) -> Iterator[tuple[str, bytes, int]]:
     found = [each for each in archive.infolist() if bare(each.filename) and not each.is_dir()]
-    if not 0 < len(found) <= MOST_MEMBERS:
+    if not 0 < len(found) <= MOST_MEMBERS - len(upload.names):
         upload.note(name, text("it holds {count} files; give the seven alone", count=len(found)))
         found = []
     for each in found:
