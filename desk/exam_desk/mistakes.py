@@ -28,7 +28,7 @@ NO_CODE = "code ''"  # the mistakes on empty codes, which are counted and not sh
 EMPTY_ROW = "an empty row of the spreadsheet: delete it"
 RIGHT = files.RIGHT
 LOST_ZEROS = re.compile(rb"([0-9]{1,7})(\.(?!000$)0+)?").fullmatch  # 1.000 is a thousand, too
-WRONG_LETTERS = re.compile("Ã.|Â.|â€|Å[\x80-\xbf¡-ÿ€-™]|\ufffd").search  # of another encoding
+WRONG_LETTERS = re.compile("[ÂÃ][^!-~À-ÿ]|[ÄÅ][^ -~À-ÿ]|â€|\ufffd").search  # as UTF-8 looks in a Western encoding
 NOT_TYPED = re.compile("^ | $|[\u00a0\u2007\u202f“”„‟‘’‚‛]").search  # but made by a word processor
 LIKE_A_NUMBER = re.compile(rb"[0-9]+E[0-9]+|[1-9][0-9]?0{4,}").fullmatch
 

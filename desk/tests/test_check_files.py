@@ -240,7 +240,8 @@ class Words(unittest.TestCase):
         """Nothing of such a file is looked at: `office mend` reads it."""
         for text, line in ((b"number;name;code\n1000;Ada;x\n", "number;name;code"), (b"\n number,name\n1000,Ada\n", "number,name"),
                            (files.BOM + b"Number,Name,Code\r\n", "Number,Name,Code"), (b"", ""), (b"sep=,\nnumber,name,code\n", "sep=,"),
-                           (b"session,date,start\n", "session,date,start")):
+                           (b"session,date,start\n", "session,date,start"),
+                           (b"number,name,code,and,many,more,columns,of,the,export\n", "number,name,code,and,many,more,columns,of,the,export")):
             self.assertEqual(self.mistakes_in("candidates", text), ([self.no_header("number,name,code", line)], []))
 
     def no_header(self, header, line):
@@ -304,6 +305,21 @@ class Words(unittest.TestCase):
             "may be what a spreadsheet made of a code such as 1E5, or will make of it",
             "has a space at an end, or a sign that no keyboard writes: is it meant?"])
 
+    def test_names_that_nobody_typed_so(self):
+        for text in "Ada ", " Ada", "Ada\u202e", "A\u00a0B", "A\u2007B", "A\u202fB", *(f"O{quote}Neil" for quote in "“”„‟‘’‚‛"):
+            self.assertTrue(mistakes.note_on("title", text.encode()).startswith("has a space at an end, or a sign"), ascii(text))
+        for text in "FranÃ§ois", "Ã Bo", "Ã\u00a0", "Â°C", "Oâ€™Neil", "ÅŸahin", "MiÅ‚osz", "GÄ™sior", "Å\u0081", "A\ufffdB":
+            self.assertEqual("looks like letters that were read in a wrong encoding", mistakes.note_on("name", text.encode()), text)
+        for text in "O'Neil", "Zoë Ångström", "Å i Lofoten", "JOÃO", "PÄÄSKYNEN", "ÅÄÖ", "Ada  Lin", "\u05d0\u05d1", "Â", "a-b. (c)":
+            self.assertEqual("", mistakes.note_on("name", text.encode()), text)
+        self.assertEqual("", mistakes.note_on("date", b"2027-06-07 "))
+
+    def test_what_is_wrong_with_a_name(self):
+        for value, said in ((b"A\tB", "it holds a line end or another control character"),
+                            (b"A\xff", "the letters are no UTF-8: save the file as CSV UTF-8"),
+                            (41 * "é".encode(), "1 to 80 bytes; it has 82"), (b"", "1 to 80 bytes; it has 0")):
+            self.assertEqual((said, ""), mistakes.cure("title", value))
+
     def test_a_code_that_a_spreadsheet_makes_a_number_of(self):
         for code, is_noted in ((b"1E4", True), (b"10000", True), (b"120000", True), (b"1000", False), (b"1230000", False),
                                (b"10000A", False), (b"E4", False)):
@@ -345,6 +361,9 @@ class Words(unittest.TestCase):
     def test_a_long_file_is_not_read(self):
         with mock.patch("exam_desk.files.MOST_BYTES", 20), self.assertRaisesRegex(Trouble, "a.csv: is longer than 20 bytes"):
             files.below_header(b"number,paper\n1,MA-1\n\n"[:21], "a.csv", ["number", "paper"])
+        with mock.patch("exam_desk.files.MOST_BYTES", 19):
+            self.assertEqual((["more than 19 bytes: split it"], 0), (self.mistakes_in("entries", b"number,paper\n1,MA-1\n")[0][:1],
+                                                                   len(self.mistakes_in("entries", b"number,paper\n,MA-1\n")[0]) - 1))
 
     def test_where_records_begin_and_end(self):
         text = files.BOM + 'a,Å\x0b\x1c\u2028\n\n\r"b\r\nc",""\r\nd\r"e""'.encode()  # in UTF-8 Å has the byte 85
