@@ -256,6 +256,10 @@ class Words(unittest.TestCase):
                 (b'0001000,"Ada', "2 in place of 3 fields; a quote is not closed")):
             self.assertEqual(self.mistakes_in("candidates", b"number,name,code\n" + row), ([said], []), row)
 
+    def test_rows_without_a_key_are_not_compared(self):
+        self.assertEqual(["seven digits; format the column as text"] * 2, self.mistakes_in(
+            "candidates", b"number,name,code\n,Ada,CODE0001\n,Bo,CODE0002\n")[0])
+
     def test_dates_and_times_are_put_right(self):
         text = b"session,date,start\nS1,15.1.2027,9:00\nS2,2027-01-15,13:30:00\nS3,1/2/2027,09:00\n"
         self.assertEqual(self.mistakes_in("sessions", text)[0], [
@@ -274,7 +278,7 @@ class Words(unittest.TestCase):
                 ("code", b"", ""), ("date", b"13/06/2027", "2027-06-13"), ("date", b"01/06/2027", ""),
                 ("date", b"7 June 2027", "2027-06-07"), ("until", b"2:30 pm", "14:30"), ("start", b"9.30", ""),
                 ("minutes", b"1 h 30", "90"), ("extra", b"", "0"), ("needs", b"Screen, reader", "screen+reader"),
-                ("start", b"2027-06-07 09:00", "")):
+                ("start", b"2027-06-07 09:00", ""), ("start", b"'9:00 ", "09:00")):
             self.assertEqual(mistakes.cure(column, value).write, write, (column, value))
 
     def test_empty_codes_are_counted_with_their_cure_and_are_not_compared(self):
@@ -339,6 +343,8 @@ class Words(unittest.TestCase):
         known.take("candidates", [(b"0000001", b"Ada", b"CODE0001")])
         text = b"number,name,code\n0000002,Bo,CODE0001\n"
         self.assertEqual(self.mistakes_in("candidates", text, known)[1], ["2 candidates have this access code"])
+        [note] = mistakes.looked_through("candidates", text, known)[1]
+        self.assertEqual((2, "number '0000002'"), (note.line, note.what))
         text += b"0000001,Ada,CODE0009\n"
         self.assertEqual(self.mistakes_in("candidates", text, known), ([], []))
 
