@@ -108,6 +108,8 @@ def with_reason(words: list[str]) -> list[str]:
 def begin() -> None:
     """Call it first: HUP, INT and TERM let a command clean up, a fault becomes a line, and all goes out as UTF-8."""
     def leave(number: int, _: FrameType | None) -> None:
+        if number == signal.SIGINT and os.isatty(2):
+            os.write(2, b"\n")  # behind the ^C
         raise SystemExit(128 + number)
     for number in (signal.SIGHUP, signal.SIGINT, signal.SIGTERM):
         if signal.getsignal(number) != signal.SIG_IGN:

@@ -14,6 +14,12 @@ TODAY = "2027-05-01"
 CHANGES = {"unlimited": ("rate=1r/s;", "rate=1000r/s;")}  # one candidate may ask faster than a human can
 
 
+def has_ipv6():
+    with contextlib.suppress(OSError), socket.create_server(("::1", 0), family=socket.AF_INET6):
+        return True
+    return False
+
+
 def wait_for(ready, what, seconds=60):
     """Waits as long as a busy machine may need."""
     until = time.monotonic() + seconds
@@ -114,7 +120,7 @@ class School(contextlib.ExitStack):
                          ("/run/nginx.pid", f"{self.folder}/nginx.pid"),
                          ("worker_processes auto;", "worker_processes 1;"),
                          ("/var/log/nginx/", f"{self.folder}/"),
-                         ("listen 127.0.0.1:8000;", f"listen 127.0.0.1:{front};"),
+                         ("listen 127.0.0.1:8000;", f"listen 127.0.0.1:{front};{f' listen [::1]:{front};' * has_ipv6()}"),
                          ("http://unix:/run/examoffice/keep.socket", self.behind_text()),
                          ("/usr/share/examoffice/web", str(built.TOP / "web")),
                          ("root /var/www/examoffice", f"root {self.public}"),

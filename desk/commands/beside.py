@@ -31,6 +31,8 @@ def absent(parser: command.Parser) -> None:
     is_note = bool(given.number or given.there or given.nobody)
     if is_note and given.session is None:
         parser.error("name a session")
+    if given.number == given.there == ["-"]:
+        parser.error("what comes in is read once: give one of the two lists as words")
     missing, there = numbers(given.number), numbers(given.there)  # first: who types them may take their time
     with command.reading() as reading:
         if is_note:

@@ -194,17 +194,18 @@ def turn(office: Office, title: str, made_from: str | None = None) -> Iterator[F
 
 
 @contextlib.contextmanager
-def unchanged(office: Office) -> Iterator[None]:
-    """Raises `Trouble`, which says that nothing is changed, where what is written before a step fails."""
+def unchanged(office: Office, done: Sequence[object] = ()) -> Iterator[None]:
+    """Raises `Trouble`, which says that nothing is changed, or nothing more than was done, where what is written before
+    a step fails."""
     try:
         yield
-    except OSError as fault:
+    except (OSError, sqlite3.Error) as fault:
+        outcome = f"so nothing {'more ' if done else ''}is changed"
+        if isinstance(fault, sqlite3.Error):
+            raise Trouble(f"{office.path} cannot be read, {outcome}: {fault}; `office check` says more") from fault
         place = fault.filename or beside.folder(office.path)
-        raise Trouble(f"nothing can be kept beside the office, so nothing is changed: {place}: {fault.strerror}"
+        raise Trouble(f"nothing can be kept beside the office, {outcome}: {place}: {fault.strerror}"
                       f"{beside.room(office.path, fault)}") from fault
-    except sqlite3.Error as fault:
-        raise Trouble(f"{office.path} cannot be read, so nothing is changed: {fault}; `office check` says more"
-                      ) from fault
 
 
 def run_patiently(office: Office, step: Step, lock: FileIO | None = None, copy: str = "") -> running.Ran:
@@ -225,7 +226,8 @@ def carried(office: Office, lock: FileIO, step: Step, status: str, copy: str = "
     """Carries out one step with the office alone, which the program does whole or not at all; `status` begins its line
     in the log, which can have another title, and name a copy. Raises OSError where nothing can be written there, and
     nothing is done."""
-    words = [title] if title else [*step.words, *step.about]
+    kind, file = refusals.imported(step.words) or ("", "-")
+    words = [title] if title else [*(step.words[:2] if kind == file else step.words), *step.about]
     with logbook.logged(office, words, status, os.path.basename(copy)) as outcome:
         answered = Answered(step, run_patiently(office, step, lock, copy))
         outcome.status, outcome.answer = answered.ran.status, answered.first_line()

@@ -60,7 +60,7 @@ def carry_out(office: Office, title: str, rows: Rows, tell: Tell) -> changing.Ca
     try:
         with contextlib.ExitStack() as whole:
             while not is_over(rows, answers):
-                with changing.unchanged(office), changing.turn(office, title) as lock:
+                with changing.unchanged(office, answers), changing.turn(office, title) as lock:
                     copy = copy or whole.enter_context(locked_copy(office, title))
                     with logbook.logged(office, [title], answer=os.path.basename(copy)) as outcome:
                         in_one_turn(office, lock, rows, answers, tell)

@@ -89,6 +89,7 @@ class Known:
         self.withdrawn: set[tuple[bytes, ...]] = set()
         self.granted: set[bytes] = set()  # the numbers of candidates with a granted arrangement
         self.codes: dict[bytes, bytes] = {}  # the access code of each number
+        self.days: dict[str, str] = {}  # of the sessions, also of those that are read from a workbook
         if connection:
             for kind in files.HEADERS:
                 self.take(kind, [tuple(map(str.encode, row)) for row in files.rows_of(connection, kind)])
@@ -104,6 +105,8 @@ class Known:
             self.entries.update(rows)
         elif kind == "candidates":
             self.codes.update((row[0], row[2]) for row in rows)
+        elif kind == "sessions":
+            self.days.update((code.decode("utf-8", "replace"), day.decode("utf-8", "replace")) for code, day, _ in rows)
 
 
 def cure(column: str, field: bytes) -> Cure:

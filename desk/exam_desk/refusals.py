@@ -3,6 +3,7 @@ file."""
 import contextlib
 import glob
 import os
+import pathlib
 import re
 from collections.abc import Sequence
 
@@ -102,13 +103,15 @@ def mistakes_of(office: Office, words: Sequence[str], data: bytes | None, is_don
 
 
 def holder(office: Office) -> str:
-    """A process that has the file open, by its number and its words; "" where none is to be seen."""
+    """A process that has a lock on the file, by its number and its words; "" where none is to be seen. Whoever only
+    reads the file has none, and keeps nobody out."""
     for path in glob.iglob("/proc/[0-9]*/fd/*"):  # of another user's process there is none
         process = int(path.split("/")[2])
         with contextlib.suppress(OSError):
-            if process != os.getpid() and os.path.samefile(path, office.path):
-                with open(f"/proc/{process}/cmdline", "rb") as line:
-                    words = line.read().decode("utf-8", "replace").rstrip("\0").replace("\0", " ")
+            if (process != os.getpid() and os.path.samefile(path, office.path)
+                    and "\nlock:" in pathlib.Path(path.replace("/fd/", "/fdinfo/")).read_text("ascii")):
+                line = pathlib.Path(f"/proc/{process}/cmdline").read_text("utf-8", "replace")
+                words = line.rstrip("\0").replace("\0", " ")
                 return f"process {process} ({words[:MOST_SHOWN]})"
     return ""
 

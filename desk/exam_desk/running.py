@@ -32,7 +32,7 @@ class Ran(NamedTuple):
 
 
 class NotStarted(Trouble):
-    """The program cannot be started, so it has changed nothing."""
+    """The program cannot be started, or given its rows, so it has changed nothing."""
 
 
 @contextlib.contextmanager
@@ -41,7 +41,7 @@ def starting(office: Office) -> Iterator[None]:
     try:
         yield
     except OSError as fault:
-        said = f"the program cannot be started, so nothing is changed: {office.program}: {fault.strerror}"
+        said = f"the program cannot be started: {office.program}: {fault.strerror}"
         if shutil.which(office.program) is None:
             said = f"there is no program {office.program}; EXAMOFFICE names another, and ./try-it --prove builds one"
         raise NotStarted(said) from fault
@@ -56,7 +56,7 @@ def run_over(office: Office, path: str, *words: str, data: bytes | None = None, 
         given = None
         if data is not None:
             if not os.path.exists("/proc/self/fd"):  # to which INPUT leads
-                raise NotStarted("/proc is not mounted, so the program can be given no rows; nothing is changed")
+                raise NotStarted("/proc is not mounted, so the program can be given no rows")
             given = stack.enter_context(open(os.memfd_create("import"), "w+b"))
             given.write(data)
             given.flush()

@@ -74,7 +74,7 @@ def alone(office: Office, words: Sequence[str]) -> Iterator[FileIO]:
             is_silent = False
             office.warn(f"waiting for {whom()}")
         if waited > PATIENCE:
-            raise Trouble(f"{whom()} has the office, and {PATIENCE} seconds are over; nothing is changed, try again")
+            raise Trouble(f"{whom()} has the office, and {PATIENCE} seconds are over: try again")
         time.sleep(PAUSE)
     with lock_file(office, "turn.lock") as turn, lock_file(office, "want.lock") as want:
         while not (is_free(turn) and try_lock(want) and is_free(turn)):

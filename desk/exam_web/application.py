@@ -92,13 +92,15 @@ def everywhere() -> dict[str, Any]:
 def problem(fault: Exception) -> ResponseReturnValue:
     """A fault in words: of a request, or what the package, a file or the database refuses."""
     said, status = wording.said(str(fault)), 500
-    if isinstance(fault, HTTPException):
+    if isinstance(fault, Trouble):
+        said, status = wording.refused(fault), 409
+    elif isinstance(fault, HTTPException):
         if fault.code == 401:
             return (guard.page("visit"), 401) if request.method == "POST" else redirect(url_for("entering.page"))
         said, status = escape(fault.description), fault.code or 500
     elif isinstance(fault, OSError) and fault.errno in beside.FULL:
-        said = text("The disk is full: make room, for example in the folder {place}, and try again.",
-                    place=beside.folder(desk().office.path, beside.DAYS))
+        said, status = text("The disk is full: make room, for example in the folder {place}, and try again.",
+                            place=beside.folder(desk().office.path, beside.DAYS)), 507
     elif isinstance(fault, OSError) and fault.filename:
         said = wording.shown(f"{fault.filename}: {fault.strerror}")
     if not g.get("visit"):  # a stranger sees no page

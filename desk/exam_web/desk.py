@@ -25,7 +25,7 @@ from werkzeug.wrappers import Response
 from exam_desk import effects, facts, files, mistakes, on_paper, private, typed, words
 from exam_desk.office import Office, Trouble
 from exam_desk.reading import Reading
-from exam_web.wording import said, text
+from exam_web.wording import refused, text
 
 AT_ONCE = f"{effects.ENTERED} GROUP BY session, number HAVING count(*) > 1"  # who has two live entries in a session
 Found = TypeVar("Found")
@@ -200,7 +200,7 @@ def at_field(page: Page, field: str) -> Iterator[None]:
     try:
         yield
     except Trouble as trouble:
-        raise Wrong(page, **{trouble.about or field: said(trouble.sentence)}) from trouble
+        raise Wrong(page, **{trouble.about or field: refused(trouble)}) from trouble
 
 
 def lead(endpoint: str, said: Markup | None = None, kind: str = "good", **values: Any) -> Response:

@@ -11,7 +11,7 @@ from markupsafe import Markup
 from werkzeug.datastructures import FileStorage
 from werkzeug.wrappers import Response
 
-from exam_desk import backups, changing, copies, facts, keeping, logbook, notebook, turns
+from exam_desk import backups, changing, copies, facts, keeping, notebook, turns
 from exam_desk.office import Stale, Trouble
 from exam_web.desk import View, Wrong, archive, as_known, at_field, desk, lead, office, once, sums, tell_papers, view
 from exam_web.proposals import MOST_ROWS, Effects, copy_key, done_since
@@ -50,8 +50,8 @@ def page() -> str:
     school = ""
     with contextlib.suppress(Trouble):  # its file is damaged: what changes the name says so
         school = notebook.school_name(desk().office)
-    return render_template("office.html", copies=found, log=[*logbook.last_lines(desk().office)][:-MOST_LINES - 1:-1],
-                           keep=turns.keep_state(desk().office), school=school)
+    return render_template("office.html", copies=found, keep=turns.keep_state(desk().office), school=school,
+                           log=done_since(desk().office, "")[:-MOST_LINES - 1:-1])
 
 
 @pages.get("/office/copies/<key>")

@@ -197,14 +197,14 @@ def rehearse(plan: Plan, here: Desk, who: Office) -> None:
     """Carries the plan out on a private copy, and keeps what that would come to; an appeal is lodged and granted there.
     Raises `Trouble` where the steps were made for another state, whatever they would do in this one."""
     plan.since = datetime.datetime.now().isoformat(" ", "seconds")
-    steps = plan.steps
+    steps, held = plan.steps, here.held  # from before the office is copied
     with contextlib.ExitStack() as stack:
         if plan.lodge:
             plan.stage = LODGING
             who = dataclasses.replace(who, path=stack.enter_context(private.private_copy(who.path, who.path)))
             steps = plan.grant(who)
         rehearsal = stack.enter_context(changing.rehearse(who, steps, partial(setattr, plan, "stage")))
-        before = here.fresh() or View(here.office, rehearsal.before)
+        before = held if held and held is here.fresh() else View(here.office, rehearsal.before)
         if plan.made_for not in ("", before.name):
             raise Trouble(OTHER_OFFICE)
         if not plan.lodge:  # a grant may be refused where a lodging is not
@@ -240,8 +240,9 @@ def carry_out(plan: Plan, here: Desk, who: Office) -> None:
 
 
 def done_since(who: Office, when: str) -> list[list[str]]:
-    """The last lines of the log on what has ended since then."""
-    return [line for line in logbook.last_lines(who)
+    """The last lines of the log on what has ended since then; a refusal in words."""
+    return [[*line, refusals.SENTENCES.get(refusals.number_of(answer) or 0, answer)]
+            for *line, answer in logbook.last_lines(who)
             if line[0] >= when and line[3] not in (logbook.BEGINS, logbook.STEP)]
 
 

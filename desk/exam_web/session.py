@@ -223,10 +223,11 @@ def close_hall(form: Form) -> Plan:
     shown = Session(form.get("session", ""))
     lost, first = checked(shown.page, form, lost="hall")["lost"], form.get("proposal", "")
     plan = Plan({"session": shown.code}, [], shown.page, "lost")
-    if first in g.visit.proposals:
-        plan = opening(form, ("proposals.page", {"key": first}), shown)
+    if first:
+        page = ("proposals.page", {"key": first}) if first in g.visit.proposals else shown.page
+        plan = opening(form, page, shown)
         if plan.values["hall"] == lost:
-            raise Wrong(("proposals.page", {"key": first}), hall=text("this is the hall that is lost"))
+            raise Wrong(page, hall=text("this is the hall that is lost"))
     plan.values["lost"], plan.fields[25], plan.halls = lost, "lost", shown.choices()
     plan.steps.append(command("close-hall", ["session", "lost"], plan.values))
     plan.command = ", ".join(filter(None, [plan.command, plan.steps[-1].title()]))

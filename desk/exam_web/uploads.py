@@ -161,8 +161,7 @@ def read_books(upload: Upload) -> None:
     names = [sheet.name for sheet in book.sheets] if upload.hidden == "take" else None
     given = {kind: says for kind, says in (upload.given or {}).items()
              if len(upload.books) == 1 or not says.sheet or folded(says.sheet) in there}
-    days = {code.decode(): day.decode() for code, day, _ in brought.get("sessions", [])}
-    job = tables.Job(known, upload.way, given, names, hidden=upload.hidden, days=days)
+    job = tables.Job(known, upload.way, given, names, hidden=upload.hidden)
     try:
         take_rows(upload, ", ".join(name for name, _ in upload.books), book.form, read_book(book, job))
     except Trouble as trouble:

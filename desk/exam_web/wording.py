@@ -14,6 +14,7 @@ from flask import Flask, current_app, request, url_for
 from markupsafe import Markup, escape
 
 from exam_desk.lists import parted
+from exam_desk.office import Trouble
 from exam_desk.words import Said, clock, features, plain
 
 COMMAND = re.compile("(`[^`]+`)")
@@ -49,6 +50,11 @@ def said(words: str | Said) -> Markup:
             return Markup(other).format(*(said(part) if " " in part else shown(part) for part in parts.groups()))
     english = "" if language() == "en" else Markup(' lang="en"')  # for who hears it
     return Markup("<bdi{}>{}</bdi>").format(english, Markup("").join(map(command_said, COMMAND.split(plain(words)))))
+
+
+def refused(trouble: Trouble) -> Markup:
+    """Why something is not done, behind the file or the place that it speaks of."""
+    return Markup("{}: {}").format(shown(trouble.place), said(trouble.sentence)) if trouble.place else said(trouble.sentence)
 
 
 def link(address: str, value: object) -> Markup:

@@ -18,8 +18,8 @@ from jinja2 import nodes
 
 DESK = pathlib.Path(__file__).resolve().parent.parent
 sys.path.insert(0, str(DESK))
-from exam_desk import (appeals, backups, copies, files, keeping, logbook, mistakes, notebook, reasons,  # noqa: E402
-                       refusals, second_sitting, typed, words)
+from exam_desk import (appeals, backups, copies, files, keeping, mistakes, notebook, reasons, refusals,  # noqa: E402
+                       second_sitting, typed, words)
 from exam_desk.workbook import cells, opening  # noqa: E402
 from exam_web import proposals, wording  # noqa: E402
 
@@ -74,7 +74,7 @@ TABLES = {  # by what stands in the call
     "appeals.KINDS[row.kind]": appeals.KINDS.values(), "appeals.STATES[row.state]": appeals.STATES.values(),
     "kind": appeals.KINDS.values(),
     "mistakes.CURES[column].removesuffix(typed.OF_A_SHEET)": CURES,
-    "v.kind": appeals.KINDS.values(), "status": [logbook.BEGINS, logbook.STEP],
+    "v.kind": appeals.KINDS.values(),
     "f'{date:%a}'": [f"{date:%a}" for date in DAYS], "f'{date:%b}'": [f"{date:%b}" for date in MONTHS],
 }
 SENTENCE = re.compile(r"[a-z]{2,} [a-z]{2,}.* [a-z]{2,}")

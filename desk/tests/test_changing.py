@@ -12,7 +12,7 @@ from unittest import mock
 
 import sample
 from breaking import kill_often, kill_rehearsals
-from exam_desk import changing, copies, files, logbook, snapshot
+from exam_desk import changing, copies, files, logbook, second_sitting, snapshot
 from exam_desk.changing import Step
 from exam_desk.office import Office, Stale, Trouble
 
@@ -124,6 +124,14 @@ class Lists(Changing):
         self.office("back", "1", "--yes")
         self.assertEqual(self.state(), before)
 
+    def test_rows_that_are_in_no_file_have_no_name_in_the_log(self):
+        step = second_sitting.imported("openings", ["MON-AM", "GYM", 12, "12:30", "no"])
+        for steps in ([step], [step, STEPS[0]]):
+            changing.carry_out(self.value, steps)
+        self.assertEqual([line[0] for line in self.log()], 2 * ["import openings for MON-AM GYM"] + [
+            "import openings for MON-AM GYM, withdraw 0001000 MA-1", *2 * ["import openings for MON-AM GYM"],
+            *2 * ["withdraw 0001000 MA-1"], "import openings for MON-AM GYM, withdraw 0001000 MA-1"])
+
     def test_one_that_is_refused_in_the_middle_leaves_nothing(self):
         before = self.state()
         for place, number in ((0, 10), (1, 9), (2, 9)):
@@ -178,6 +186,14 @@ class Lists(Changing):
             self.assertNotEqual(self.state(), before)
             self.office("back", "1", "--yes")
             self.assertEqual(self.state(), before)
+
+    def test_where_memory_is_short_nothing_is_tried_again(self):
+        """Another command has the file for some time only; memory comes back when somebody ends something."""
+        for number, is_once in ((22, True), (23, False)):
+            runs = os.path.join(self.folder, f"runs{number}")
+            program = self.program(f'[ "$5" = withdraw ] && echo >>{runs} && echo refused {number} >&2 && exit 1')
+            carried = changing.carry_out(Office(self.path, program, self.value.today, "tester"), STEPS[:1])
+            self.assertEqual((carried.answers[-1].first_line(), os.path.getsize(runs) == 1), (f"refused {number}", is_once))
 
     def test_a_single_command_that_is_refused_leaves_no_copy(self):
         carried = changing.carry_out(self.value, [Step(("reinstate", "0001000", "MA-1"))])
@@ -459,6 +475,13 @@ class Killed(Changing):
             self.office("look", "Ada")
             self.write("may_end", "")
         self.assertEqual(process.returncode, 0)
+
+    def test_a_change_that_ends_between_two_looks_at_the_log_is_not_broken_off(self):
+        words = ["withdraw", "0001000", "MA-1"]
+        logbook.write(self.value, words, logbook.BEGINS, "")
+        self.assertEqual(logbook.broken_off(self.value).command, "withdraw 0001000 MA-1")
+        with mock.patch("exam_desk.turns.is_taken", lambda *_: logbook.write(self.value, words, 0, "withdrawn")):
+            self.assertIsNone(logbook.broken_off(self.value))
 
     def test_ctrl_c_in_a_single_change(self):
         """It comes before the program has done anything, and behind its change."""

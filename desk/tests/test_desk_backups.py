@@ -183,6 +183,7 @@ class TestDamaged(Backups):
         for bring in (lambda: copy), (lambda: self.browser.send(*BRING, backup)[0]):
             self.lose()
             self.write("office.db", b"rubbish" * 1000)
+            self.assertIn("holds no office", self.browser.get("/", 409))
             page = bring()
             text = self.browser.get(page)
             self.assertIn("What is in it", text)

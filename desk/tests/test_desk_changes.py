@@ -97,6 +97,14 @@ class TestRehearsal(DeskSchool):
                                         **{"hall": "R14", "desks": "9", "until": "14:00", **values})
             self.assertRegex(text, rf'name="{"|".join(values)}"[^>]*aria-invalid="true"')
 
+    def test_the_other_hall_stays_where_the_first_rehearsal_is_gone(self):
+        """Its visit may be over, or have twenty later ones."""
+        form = {"session": "MON-AM", "lost": "GYM", "proposal": "gone", "hall": "R14", "desks": "30", "until": "14:00"}
+        page, _ = self.browser.post("/propose/close", "/sessions/MON-AM", **form)
+        self.assertIn("Close GYM for MON-AM , and have R14 with 30 desks until 14:00", self.browser.words(page))
+        _, text = self.browser.post("/propose/close", "/sessions/MON-AM", 422, **{**form, "hall": "GYM"})
+        self.assertIn("this is the hall that is lost", text)
+
     def test_a_hall_that_the_office_does_not_know_yet(self):
         new = {"new_hall": "TENT", "new_title": "Tent <b>", "new_features": ["screen", "step-free"], "desks": "30",
                "until": "14:00", "hall": "R14"}
@@ -146,6 +154,26 @@ class TestRehearsal(DeskSchool):
         self.assertIn("What changed", self.browser.words(page))
         self.assertNotIn("nothing was done", self.browser.words(page))
         self.assertNotEqual(self.seats(), before)
+
+    def test_another_officer_while_it_is_rehearsed(self):
+        """A page shows the office as it is then; the rehearsal began before."""
+        self.end()
+        slow = self.write("slow", "")
+        self.environment["EXAMOFFICE"] = self.write("program", (
+            f'#!/bin/sh\n[ "$2" = {self.path} ] || case "$*" in *" withdraw "*) while [ -e {slow} ]; do sleep 0.05; done;; '
+            f'esac\nexec {sample.built_program()} "$@"\n'))
+        os.chmod(self.environment["EXAMOFFICE"], 0o700)
+        self.start()
+        self.browser.get("/")
+        page, _ = self.browser.post("/propose/withdraw", "/candidates/1051", number="0001051", paper="PH-1")
+        other = self.rows("SELECT number FROM entry WHERE paper = 'PH-1' AND number <> 1051")[0][0]
+        self.office("withdraw", f"{other:07}", "PH-1")
+        self.browser.get("/")
+        os.remove(slow)
+        self.assertEqual(effects(self.browser.get(page))["leaves"], (1, 1))
+        self.browser.post(page + "/do", page)
+        self.assertIn("nothing was done", self.browser.words(page))
+        self.assertNotIn("should never be", self.browser.words(page))
 
     def test_another_name_is_asked_once_more_where_the_code_is_another_meanwhile(self):
         page, _ = self.browser.post("/propose/name", "/candidates/1051", number="0001051", name="Di Marsh")
@@ -445,6 +473,8 @@ class TestBesideKeep(DeskSchool):
         self.assertEqual(set(answers), {200})
         self.browser.post("/office/keep", "/office", what="stop")
         self.assertIn("not served", self.browser.words("/office"))
+        _, text = self.browser.post("/office/keep", "/office", 409, what="stop")  # another tab has stopped it
+        self.assertIn("candidates are not served", text)
 
 
 class TestManyOfficers(DeskSchool):

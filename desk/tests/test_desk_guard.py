@@ -39,10 +39,26 @@ client = app.test_client()
 client.set_cookie('localhost', 'desk', 'secret')
 def ask():
     return client.get('/candidates').headers['Location']
-first = ask()
-for visit in here.visits.values():
-    visit.seen -= 8 * 3600 + 1
-print(first, len(here.visits), ask(), len(here.visits))
+def wait(seconds):
+    for visit in here.visits.values():
+        visit.seen -= seconds
+found = [ask()]
+for seconds in (5 * 3600, 5 * 3600, 8 * 3600 + 1):
+    wait(seconds)
+    found.append(ask())
+    found.append(len(here.visits))
+print(*found)
+"""
+FULL = MAKE + """
+import errno
+app.extensions['guard'].visits = {guard.digest('secret'): guard.Visit('ab', 'x')}
+client = app.test_client()
+client.set_cookie('localhost', 'desk', 'secret')
+def full():
+    raise OSError(errno.ENOSPC, 'No space left on device', '/there')
+app.view_functions['season.page'] = full
+answer = client.get('/')
+print(answer.status_code, answer.text)
 """
 
 
@@ -97,11 +113,24 @@ class TestEntering(DeskSchool):
         self.browser.get("/")
 
     def test_a_link_grows_old(self):
+        """One that somebody opens takes those that are too old with it; a clock can be set back."""
+        folder = os.path.join(self.desk, "links")
+        for seconds in -700, 700:
+            other = self.another()
+            [link] = os.listdir(folder)
+            when = time.time() + seconds
+            os.utime(os.path.join(folder, link), (when, when))
+            if seconds > 0:
+                self.assertEqual(other.enter().status, 422)
+            else:
+                self.assertEqual(self.another().enter().status, 303)
+            self.assertEqual(os.listdir(folder), [])
+            self.assertEqual(other.enter().status, 422)
+
+    def test_a_link_is_typed_whole(self):
         other = self.another()
-        [link] = os.listdir(os.path.join(self.desk, "links"))
-        old = time.time() - 700
-        os.utime(os.path.join(self.desk, "links", link), (old, old))
-        self.assertEqual(other.enter().status, 422)
+        other.token = f"http://127.0.0.1:{other.port}{other.prefix}/enter#{other.token} "
+        self.assertEqual(other.enter().status, 303)
 
     def test_a_link_is_kept_as_its_hash_for_the_owner_alone(self):
         other = self.another()
@@ -170,6 +199,8 @@ class TestPages(DeskSchool):
         for path, host, status in (("/", {"Host": "evil.example"}, 421), ("/", {}, 404), ("/enter", {}, 404), ("/static/desk.css", {}, 404)):
             answer, _ = self.browser.ask("GET", path, headers=host, prefix="")
             self.assertEqual((answer.status, answer.headers["Connection"]), (status, "close"), path)
+        for site in "none", "same-origin":  # an address that is typed, a link of the desk
+            self.assertEqual(self.browser.ask("GET", "/candidates", headers={"Sec-Fetch-Site": site})[0].status, 200)
         for path in ("/static/../guard.py", "/static/%2e%2e/guard.py", "/sessions/..%2f..", "/office/copies/..%2f..",
                      "/files/uploaded/x/../../etc.csv", "/nothing", f"/candidates/{10**20}",
                      f"/appeals/{10**20}/D1", f"/clashes/MON-AM/{10**20}"):
@@ -184,8 +215,8 @@ class TestPages(DeskSchool):
             self.assertNotIn("unsafe", policy)
             self.assertEqual(answer.headers["Cross-Origin-Resource-Policy"], "same-origin")
             self.assertEqual(answer.headers["X-Content-Type-Options"], "nosniff")
-            if "static" not in path:
-                self.assertEqual(answer.headers["Cache-Control"], "no-store")
+            self.assertEqual(answer.headers["Cache-Control"],
+                             "private, max-age=3600" if "static" in path else "no-store", path)
 
     def test_nothing_inline(self):
         for path in SCREENS:
@@ -253,6 +284,7 @@ class TestProcess(DeskSchool):
             self.end(number)
             self.assertEqual(os.listdir(os.path.join(self.desk, "tmp")), [])
             self.assertFalse(os.path.exists(os.path.join(self.desk, "links")))
+            self.assertEqual(os.path.getsize(os.path.join(self.desk, "desk.lock")), 0)  # it says where a desk is
             sample.until(lambda: not any(os.path.exists(f"/proc/{child}") for child in children))
             self.start()
 
@@ -323,7 +355,14 @@ class TestProcess(DeskSchool):
 class TestIdle(unittest.TestCase):
     def test_a_visit_ends_after_eight_hours_without_a_click(self):
         done = subprocess.run([PYTHON, "-c", IDLE, DESK], capture_output=True, text=True, check=True)
-        self.assertEqual(done.stdout.split(), ["/", "2", "/enter", "0"])
+        self.assertEqual(done.stdout.split(), ["/", "/", "2", "/", "1", "/enter", "0"])  # the other one has no clicks
+
+
+@unittest.skipUnless(HAS_FLASK, "Flask or waitress is missing")
+class TestFull(unittest.TestCase):
+    def test_a_full_disk_says_where_room_can_be_made(self):
+        done = subprocess.run([PYTHON, "-c", FULL, DESK], capture_output=True, text=True, check=True)
+        self.assertRegex(done.stdout, "(?s)^507 .*The disk is full: make room, for example in the folder .*/days")
 
 
 @unittest.skipUnless(HAS_FLASK, "Flask or waitress is missing")

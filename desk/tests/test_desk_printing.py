@@ -191,7 +191,7 @@ class TestPrinting(DeskSchool):
         self.assertEqual(re.findall(r"<div class=sheet><h2><bdi>(.*?)</bdi>", sheet), ["10B", "&lt;i&gt;=10A", "in no group"])
         _, page = self.browser.send(*asked, ("<b>.csv", b"number,form\n0001051,10B\n"), status=422)
         self.assertRegex(page, 'name="groups"[^>]*aria-invalid="true"')
-        self.assertIn("line 1 must be: number,group", page)
+        self.assertIn("<bdi>&lt;b&gt;.csv</bdi>: <bdi>line 1 must be: number,group", page)
         _, sheet = self.browser.send(*asked, ("f.csv", b"number;group\n1051;10B\n"), status=200)
         self.assertIn("<div class=sheet><h2><bdi>10B</bdi>", sheet)
         _, sheet = self.browser.send(*asked, ("", b""), status=200, codes="1")
@@ -234,7 +234,7 @@ class TestPrinting(DeskSchool):
             _, text = self.browser.post(page + "/absent", page, 422, **values)
             self.assertIn("nobody can have been present or absent before that day", text)
         answer, text = self.browser.ask("GET", page + "/attendance.csv")
-        self.assertNotEqual(answer.status, 200)
+        self.assertEqual(answer.status, 409)
         self.assertIn("nobody can have been present or absent before that day", text)
         self.assertIsNone(notebook.absent(self.value, "MON-AM"))
 

@@ -237,6 +237,15 @@ class TestSince(DeskSchool):
         self.assertRegex(self.browser.get(page), r'href="[^"]*/office/copies/\w+">What changed since')
 
 
+class TestLog(DeskSchool):
+    def test_each_change_is_one_line_which_says_what_came_of_it(self):
+        self.office("withdraw", "0001051", "PH-1")
+        self.run_office("withdraw", "0001051", "PH-1")
+        words = self.browser.words("/office").partition("Log When Who What Answer ")[2]
+        self.assertEqual(words.count("withdraw 0001051 PH-1"), 2)
+        self.assertRegex(words, "withdraw 0001051 PH-1 +the entry is withdrawn already .* withdraw 0001051 PH-1 +withdrawn")
+
+
 class TestOver(DeskSchool):
     FOLDED = '<details class="new"><summary>The session is over. Change it all the same …</summary>'
 

@@ -400,6 +400,13 @@ class TestSchool(DeskSchool):
         self.assertIn(r"\u200f", pathlib.Path(self.desk, "notebook", "school.json").read_text("ascii"))
 
 
+class TestLetters(unittest.TestCase):
+    def test_they_are_as_large_as_the_browser_is_told(self):
+        """Those in the picture of a hall are as large as its desks."""
+        rules = re.findall(r"([^{}]+)\{([^{}]*)\}", (DESK / "exam_web/static/desk.css").read_text("utf-8"))
+        self.assertEqual({where.split()[0] for where, what in rules if re.search(r"font[^;]*\dpx", what)}, {".grid"})
+
+
 class TestHandbook(DeskSchool):
     def test_each_help_line_leads_to_its_chapter(self):
         book = self.browser.get("/handbook")

@@ -271,8 +271,9 @@ class Listed(test_changing.Changing):
             if status == logbook.STEP and words[1] == "0001017":
                 raise OSError(28, "No space left on device", "/x")
             real(office, words, status, answer)
-        with (mock.patch("exam_desk.logbook.write", write),
-              self.assertRaisesRegex(Trouble, "^the rows from line 3 on are not carried out: .*/x: No space left ")):
+        with (mock.patch("exam_desk.logbook.write", write), self.assertRaisesRegex(
+                Trouble, "^the rows from line 3 on are not carried out: nothing can be kept beside the office, so nothing more is "
+                         "changed: /x: No space left ")):
             self.carried(GOOD)
         self.assertEqual((len(self.kept()), self.log()[2:]), (1, [
             ["withdraw 0001000 MA-1", "0", "withdrawn"], ["withdraw --list x", "1", "stopped: look whether it is done"]]))

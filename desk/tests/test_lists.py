@@ -322,6 +322,11 @@ class Lists(sample.SampleSchool):
         self.assertEqual(max(page.count("\n") for page in pages), 20)
         self.assertEqual(max(len(line) for page in pages for line in page.split("\n")), 76)
         self.assertRegex("".join(pages), r"(?m)^0001493 .* W+\n {8}W+\?$")
+        for columns, lines in ((40, 10), (45, 11)):  # narrower than the headings
+            narrow = self.office("print-session", "MON-AM", "--lines", str(lines), "--columns", str(columns)).split("\f")
+            self.assertEqual(max(page.count("\n") for page in narrow), lines)
+            self.assertEqual(max(len(line) for page in narrow for line in page.split("\n")), columns)
+        self.assertIn("DOOR LIST session MON-AM hall GYM  page 1 of \n        4\ndate 2027", "".join(narrow))
         heads = [page.split("\n")[0] for page in pages]
         self.assertIn("DOOR LIST session MON-AM hall GYM  page 2 of 2", heads)
         self.assertEqual([head for head in heads if "LIB" in head], [])

@@ -4,6 +4,7 @@ import dataclasses
 import os
 import shutil
 import sqlite3
+from concurrent.futures import ThreadPoolExecutor
 
 import desk_client
 import sample
@@ -71,6 +72,15 @@ class NewOffice(test_changing.Changing):
         with self.assertRaises(NotStarted):
             changing.make_new(dataclasses.replace(self.value, program="/nowhere"))
         self.assertEqual((sorted(os.listdir(self.desk)), self.said), (before, []))
+
+    def test_a_note_that_is_being_written_is_in_it(self):
+        with ThreadPoolExecutor() as pool:
+            with notebook.alone(self.value):
+                aside = pool.submit(notebook.set_aside, self.value)
+                with self.assertRaises(TimeoutError):
+                    aside.result(0.5)
+                self.write("desk-office.db/notebook/school.json", '"Hill"')
+            self.assertIn("the name of the school", aside.result()[1])
 
     def test_where_no_folder_is_the_program_says_so(self):
         self.assertIn("refused 23\n  the database cannot be used now: ",

@@ -294,6 +294,9 @@ class Commands(sample.SampleSchool):
         self.assertIn("nothing is noted: 0001052: no candidate of MON-AM",
                       self.refused("absent", "MON-AM", "0001000", "1052"))
         self.assertIn("0001051: absent, or there?", self.refused("absent", "MON-AM", "1051", "--there", "1051"))
+        done = self.run_office("absent", "MON-AM", "-", "--there", "-", stdin="1051\n")
+        self.assertEqual((done.returncode, done.stderr.splitlines()[-1]), (
+            2, "office absent: error: what comes in is read once: give one of the two lists as words"))
         self.assertIn("more than 4194304 bytes of numbers",
                       self.refused("absent", "MON-AM", "-", stdin="0001034 " * 600_000))
         for wrong in ("x1051", "00001051", "0000000", "١٠٥١", "10 51"):

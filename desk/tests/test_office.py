@@ -1,4 +1,5 @@
 """The front script over the sample school: refusals in words, copies and `back`, the log."""
+import fcntl
 import io
 import os
 import pathlib
@@ -7,12 +8,13 @@ import select
 import shutil
 import sqlite3
 import stat
+import struct
 import subprocess
 import sys
 import time
 import unittest
 from concurrent.futures import ThreadPoolExecutor
-from contextlib import closing, redirect_stderr
+from contextlib import closing, contextmanager, redirect_stderr
 from unittest import mock
 
 import sample
@@ -365,8 +367,12 @@ class Causes(sample.SampleSchool):
         return lines[2:-2]
 
     def test_a_second_hard_link(self):
+        """Whoever reads the file meanwhile, as a backup does, is not the cause."""
         os.link(self.path, os.path.join(self.folder, "other.db"))
         self.assertEqual(self.causes(), [])
+        with open(self.path, "rb") as file, subprocess.Popen(["sleep", "60"], stdin=file) as process:
+            self.assertEqual(self.causes(), [])
+            process.kill()
 
     def test_a_folder_and_a_pipe(self):
         pipe = os.path.join(self.folder, "pipe.db")
@@ -407,14 +413,21 @@ class Causes(sample.SampleSchool):
         os.chmod(program, 0o700)
         self.assertEqual(self.office("check", EXAMOFFICE=program), "good\n")
 
+    @contextmanager
+    def locked(self):
+        """The file of the office, with a lock that whoever inherits the file has too."""
+        with open(self.path, "rb") as file:
+            fcntl.fcntl(file, fcntl.F_OFD_SETLK, struct.pack(turns.FLOCK, fcntl.F_RDLCK, os.SEEK_SET, 0, 0, 0))
+            yield file
+
     def test_who_has_the_file_is_named(self):
-        with open(self.path, "rb") as file, subprocess.Popen(["sleep", "60"], stdin=file) as process:
+        with self.locked() as file, subprocess.Popen(["sleep", "60"], stdin=file) as process:
             sample.until(lambda: refusals.holder(self.value))
             self.assertEqual(refusals.holder(self.value), f"process {process.pid} (sleep 60)")
             self.assertEqual(refusals.patience(self.value), turns.PATIENCE)
             process.kill()
         line = {"args": ["/srv/serve/" + 200 * "x", "60"], "executable": "/bin/sleep"}
-        with open(self.path, "rb") as file, subprocess.Popen(**line, stdin=file) as process:
+        with self.locked() as file, subprocess.Popen(**line, stdin=file) as process:
             sample.until(lambda: refusals.holder(self.value))
             self.assertEqual(refusals.holder(self.value), f"process {process.pid} (/srv/serve/{189 * 'x'})")
             self.assertEqual(refusals.patience(self.value), turns.PATIENCE)  # that is no `serve`

@@ -14,7 +14,7 @@ from unittest import mock
 import sample
 from cells import Cells
 
-from exam_desk import snapshot  # beside the tests' folder
+from exam_desk import notebook, snapshot  # beside the tests' folder
 from exam_desk.reading import Reading
 from exam_desk.sheets import session_page
 
@@ -238,6 +238,27 @@ class Papers(sample.SampleSchool):
             if words[0] == "doors":  # each page of a hall says which it is
                 self.assertEqual(text.count(b"\f"), html.count("<div class=sheet>"))
             self.assertEqual(text.count(b"W") - text.count(b"Wanda") - text.count(b"Weiss") - text.count(b"Willem"), 80)
+
+    def test_each_page_of_a_hall_is_one_sheet(self):
+        """However long names, notes, codes, the name of the school and what is printed of a desk are."""
+        if not shutil.which("pdftotext"):
+            self.skipTest("there is no pdftotext")
+        of_session = "code IN (SELECT code FROM paper WHERE session = 'MON-AM')"
+        self.change("UPDATE entry SET paper = 'WWWWWWWW-' || substr(paper, -3) WHERE paper" + of_session[4:],
+                    "UPDATE paper SET code = 'WWWWWWWW-' || substr(code, -3) WHERE " + of_session)
+        numbers = [f"{number:07}" for number in range(1000, 2020, 17)]
+        for title, school, name, note, hall in (
+                ("Hall", "", "Wolfgang Amadeus Mozart-Weber", "", ""), ("Hall", "W" * 80, "Ada Lin", "", ""),
+                ("W" * 80, "", "Ada Lin", "", ""), ("W" * 80, "W" * 80, "Ada Lin", "", "WWWWWWWW"),
+                ("Hall", "", "Ada Lin", "sits at the door", "GYM"), ("Hall", "", "W" * 80, "rest breaks " * 16, "")):
+            self.change(("UPDATE candidate SET name = ?", [name]), ("UPDATE hall SET title = ?", [title]),
+                        ("UPDATE paper SET title = ?", [title]))
+            notebook.set_school_name(self.value, school)
+            notebook.take_notes(self.value, dict.fromkeys(numbers, note))
+            notebook.keep(self.value, "printed.MON-AM", lambda _: dict.fromkeys(numbers, [hall, 2000]))
+            page, _ = self.browse("doors", html := self.office("doors", "MON-AM"), "--print-to-pdf={}.pdf")
+            text = subprocess.run(["pdftotext", "-raw", f"{page}.pdf", "-"], check=True, capture_output=True).stdout
+            self.assertEqual(text.count(b"\f"), html.count("<div class=sheet>"), (title, school, name, note, hall))
 
     def test_the_hall_stands_on_each_page(self):
         if not shutil.which("pdftotext"):

@@ -332,7 +332,7 @@ class Turns(sample.SampleSchool):
             for state, who in ((None, r"the program \(a command that began it was killed\)"),
                                ({"pid": 7}, r"`keep` \(it does not step aside: \{'pid': 7\}\)")):
                 with (mock.patch("exam_desk.turns.keep_state", return_value=state), mock.patch("os.kill") as asked,
-                      self.assertRaisesRegex(Trouble, f"^{who} has the office, and 0.1 seconds are over; nothing is changed")):
+                      self.assertRaisesRegex(Trouble, f"^{who} has the office, and 0.1 seconds are over: try again")):
                     with turns.alone(self.value, ["check"]):
                         self.fail("it has the office")
                 self.assertEqual(asked.call_count, state is not None)
@@ -388,8 +388,7 @@ class Turns(sample.SampleSchool):
             want.close()
         whom = "another command (process 7, import entries)"
         self.assertEqual([*self.said, str(raised.exception)],
-                         [f"waiting for {whom}", f"{whom} has the office, and 0.5 seconds are over; nothing is changed, "
-                                                 "try again"])
+                         [f"waiting for {whom}", f"{whom} has the office, and 0.5 seconds are over: try again"])
 
 
 class Waiting(sample.KeptSchool):

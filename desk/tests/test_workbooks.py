@@ -539,6 +539,17 @@ class Commands(sample.SampleSchool):
         self.assertEqual([first], self.rows("new", "candidates"))
         self.assertEqual([[first[0], paper]], self.rows("new", "entries"))
 
+    @needs_openpyxl
+    def test_a_time_beside_the_day_of_a_session_that_the_office_alone_has(self) -> None:
+        """A spreadsheet's 12:30 on 7 or on 8 June 2027: 46545 days and a part of one after 1899-12-30."""
+        for number, status in ("46545.520833333336", 0), ("46546.520833333336", 1):
+            book = rawbook.xlsx(cases.sheet("Openings", cases.OPENINGS, ["MON-AM", "GYM", 20, ("n", number, rawbook.TIME), "no"]))
+            pathlib.Path(self.folder, "b.xlsx").write_bytes(book)
+            done = self.run_office("read", "b.xlsx", f"new{status}")
+            self.assertEqual(status, done.returncode, done.stdout)
+        self.assertIn("has a date too, 2027-06-08, which is not that of the session", done.stdout)
+        self.assertEqual([["MON-AM", "GYM", "20", "12:30", "no"]], self.rows("new0", "openings"))
+
 
 if __name__ == "__main__":
     unittest.main()

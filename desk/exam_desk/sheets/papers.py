@@ -33,8 +33,8 @@ ALL_COPIES = ["Paper, all halls", "n:Copies", "n:Last finish"]
 TOLD = ["w:Session", "w:Number", "Name", "Before", "Now", "box:Told"]
 SAT = "{}<br>{}<br>{}, <span class=w>{}–{}</span>"
 
-SIGNED = ["n:Desk", "w:Number", "Name", "Paper", "sign:Signature"]
-DOORS = ["n:Desk", "w:Number", "Name", "Paper", "w:Finish", "Arrangement", "sign:Signature"]
+SIGNED = ["n:Desk", "w:Number", "Name", "paper:Paper", "sign:Signature"]
+DOORS = ["n:Desk", "w:Number", "Name", "paper:Paper", "w:Finish", "told:Arrangement", "sign:Signature"]
 LATER = "or later"  # below the finish of who has a note, since it may be of rest breaks
 ABOVE = "<span>{}<br>open until {}, last finish {}<br>{}, {} expected</span><h2>{}</h2><br>{}, page {} of {}<br>{}"
 COLLECTED = Markup("{}: {} &ensp; present ____ &ensp; scripts ____")  # for each of several papers of a hall
@@ -42,9 +42,9 @@ BELOW = Markup("Present: ____ &ensp; Absent: ____ &ensp; Scripts: ____ &ensp; Co
                "Invigilator: __________")
 # Estimates in millimetres, rather too large than too small: so a page of A4 can say which of how many it is.
 HEIGHT = 267  # of a page between the margins
-LINE = 4.6  # of a line of 10 points
-ROW, HEADING, LAST = 9.05, 16.0, 11.5  # heights of a row, of a heading without titles, of the line below all
-NAME, ARRANGEMENT, TITLE, PAPER = 50.0, 34.0, 90.0, 140.0  # widths of these texts
+LINE, SMALL = 4.6, 0.75  # of a line of 10 points; of small letters below a desk, beside such a line
+HEADING, LAST = 16.0, 11.5  # heights of a heading without titles, of the line below all
+DESK, NAME, PAPER, ARRANGED, TITLE, SAID = 15.0, 45.0, 18.0, 32.0, 90.0, 140.0  # widths of these texts
 ON_CARD, LINES_OF_CARD, ON_CHART, ON_POSTER = 75, 120, 60, 70  # how wide large letters may be, if they had 10 points
 WIDE = "WFA"  # letters that are as wide as high, or may be
 MARKS = {"Mn", "Me", "Cf"}  # stand over other letters, or nowhere
@@ -77,14 +77,16 @@ class Session:
         is_alone = self.namesakes[lists.fold(plain(member.name))] == 1
         return text(member.name) if is_alone else html("{} <small class=w>{}</small>", text(member.name), member.number)
 
+    def was(self, member: Member) -> str:
+        """What stands behind the desk of a candidate that is another than the printed one."""
+        hall, line = member.sitting.hall, self.printed.get(member.number)
+        if not self.printed or line and line[:2] == (hall, member.sitting.desk):
+            return ""
+        return f"was {line.desk if line.hall == hall else f'{line.hall} {line.desk}'}" if line and line.hall else "new"
+
     def desk(self, member: Member) -> Markup:
-        """The desk of a candidate, with the one that was printed where that is another."""
-        hall, desk = member.sitting.hall, member.sitting.desk
-        line = self.printed.get(member.number)
-        if not self.printed or line and line[:2] == (hall, desk):
-            return safe(desk)
-        was = f"was {line.desk if line.hall == hall else f'{line.hall} {line.desk}'}" if line and line.hall else "new"
-        return html("{} <small>{}</small>", desk, was)
+        was = self.was(member)
+        return html("{} <small>{}</small>", member.sitting.desk, was) if was else safe(member.sitting.desk)
 
 
 def page(reading: Reading, name: str, session: str, asked: Collection[str] = ()) -> str:
@@ -180,7 +182,8 @@ def signatures(of: Session) -> Iterator[Markup]:
     papers = paper_names(of.rows, CODE)
     for opening, there in of.halls:
         rows = [[sits.desk, number, text(name), papers[sits.paper], ""] for number, name, sits in there]
-        yield table(opening.hall, SIGNED, rows, html("{}<br><h2>{}</h2>", of.heading, text(opening.title)))
+        yield table(opening.hall, SIGNED, rows, html("{}<br><h2>{}</h2> ({})", of.heading, text(opening.title),
+                                                     opening.hall))
 
 
 def doors(of: Session) -> Iterator[Markup]:
@@ -203,8 +206,9 @@ def of_door(of: Session, titles: Mapping[str, Markup], opening: facts.Opening, m
     line = COLLECTED if len(counted) > 1 else Markup("{}: {}")
     said = [*(html(line, titles[code], count) for code, count in counted), *map(safe, of.others.get(opening.hall, []))]
     rows, heights = zip(*found)
-    above = lines([opening.title], TITLE) + lines((each.striptags() for each in said), PAPER)
-    parts = parted(heights, HEIGHT - HEADING - LINE * max(3, above), LAST)
+    above = lines([opening.title], TITLE) + lines((each.striptags() for each in said), SAID)
+    beside = 2 + lines([notebook.school_name(of.office)], TITLE)
+    parts = parted(heights, HEIGHT - HEADING - LINE * max(above, beside), LAST)
     last = max(member.sitting.finish for member in members)
     for place, part in enumerate(parts, 1):
         head = html(ABOVE, of.heading, clock(opening.until), last, lists.count(opening.desks, "desk"),
@@ -215,14 +219,14 @@ def of_door(of: Session, titles: Mapping[str, Markup], opening: facts.Opening, m
 
 
 def row_of(of: Session, member: Member, paper: Markup, is_noted: bool, arranged: list[str]) -> Row:
-    """The row of a candidate, as high as its highest cell is, or a signature."""
+    """The row of a candidate, as high as its highest cell; a signature has room beside the desk and the line below it."""
     finish, line = member.sitting.finish, of.printed.get(member.number)
     below = [f"was {line.finish}"] if line and line.finish not in ("", finish) else []
     until = joined([finish, *(html("<small>{}</small>", each) for each in below + [LATER] * is_noted)], "<br>")
-    height = 1 + LINE * max(lines([member.name], NAME), lines(arranged, ARRANGEMENT), len(paper.striptags().split()),
-                            1 + until.count("<br>"))
-    return [of.desk(member), member.number, text(member.name), paper, until,
-            joined(map(text, arranged), "<br>"), ""], max(ROW, height)
+    height = 1 + LINE * max(1 + SMALL * lines([of.was(member)], DESK / SMALL), lines([member.name], NAME),
+                            lines([paper.striptags()], PAPER), 1 + until.count("<br>"), lines(arranged, ARRANGED))
+    return [of.desk(member), member.number, text(member.name), paper, until, joined(map(text, arranged), "<br>"),
+            ""], height
 
 
 MAKERS: dict[str, Callable[[Session], Iterator[Markup]]] = {

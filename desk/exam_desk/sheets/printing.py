@@ -56,12 +56,18 @@ def written(reading: Reading, row: sqlite3.Row) -> Sheets:
 
 
 def pages(lines: list[str], most: int, width: int) -> Iterator[str]:
-    """The pages of a sheet; several say which each is. What of a line has no room goes on indented in the next, so that
-    it does not look like another row."""
-    heading, room, more = lines[:HEADING], most - HEADING, width - len(INDENT)
-    body = [part for line in lines[HEADING:] for part in (
-        line[:width], *(f"{INDENT}{line[at:at + more]}" for at in range(width, len(line), more)))]
+    """The pages of a sheet, with its heading on each; several say which each is."""
+    first, *others = lines[:HEADING]
+    body = folded(lines[HEADING:], width)
+    room = most - len(folded([f"{first}  page {len(body)} of {len(body)}", *others], width))
     parts = [body[at:at + room] for at in range(0, len(body), room)] or [[]]
     for place, part in enumerate(parts, 1):
         which = f"  page {place} of {len(parts)}" if len(parts) > 1 else ""
-        yield "".join(f"{line}\n" for line in [heading[0] + which, *heading[1:], *part])
+        yield "".join(f"{line}\n" for line in [*folded([first + which, *others], width), *part])
+
+
+def folded(lines: list[str], width: int) -> list[str]:
+    """What of a line has no room goes on indented in the next, so that it does not look like another row."""
+    more = width - len(INDENT)
+    return [part for line in lines for part in (
+        line[:width], *(f"{INDENT}{line[at:at + more]}" for at in range(width, len(line), more)))]

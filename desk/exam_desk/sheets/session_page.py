@@ -1,6 +1,4 @@
 """One page of a session: halls, shortage, who sits where, clashes and appeals."""
-from collections.abc import Sequence
-
 from markupsafe import Markup
 
 from exam_desk import appeals, facts, lists, reasons
@@ -18,7 +16,9 @@ HEADER = ("<header><h1>Session {}</h1><p>{}</p><p>{}: {:,} seated, {:,} without 
           "<nav>{}</nav></header>\n")
 SECTION = "<section id={}><h2>{}</h2>\n{}\n</section>\n"
 NONE = Markup("<p>None.</p>")
-BAR = "<svg class=bar viewBox='0 0 100 10' preserveAspectRatio=none role=img aria-label='{}'>{}</svg>"
+# Desks that are taken and that are free, to scale; SVG, since printers leave out backgrounds.
+BAR = ("<svg class=bar viewBox='0 0 {0} 1' preserveAspectRatio=none role=img aria-label='{1} taken, {2} free'>"
+       "<rect class=taken width={3} height=1 /><rect class=free x={3} width={2} height=1 /></svg>")
 WHY = "<div class=why><h3>Why they have no desk</h3><pre>{}</pre></div>"
 CARD = "<div class='card {}'><h3>{}</h3>{}</div>"
 EXPLANATION = ("<p class=sum>{} = {} + {:,} unseated</p><p>{} So every plan leaves at least as many of them without a "
@@ -65,10 +65,9 @@ class Page:
             details = [", ".join(features(each.features)) or "no features", f"until {clock(each.until)}",
                        *["only with needs or extra time"] * each.reserved]
             free = each.desks - taken if each.until > self.head["start"] else 0
-            label = f"{count(taken, 'desk')} taken, {free} free"
             rows.append([html("<a href='#hall-{0}'>{0}</a> {1}{2}<br><small>{3}</small>", each.hall, text(each.title),
                               mark, "; ".join(details)),
-                         bar([("taken", taken), ("free", free)], widest, label), taken, free])
+                         html(BAR, widest, count(taken, "desk"), free, taken), taken, free])
         return table("Halls", ["Hall", "Desks (dark: taken)", "n:Taken", "n:Free"], rows)
 
     def hall_part(self, opening: Opening) -> Markup:
@@ -122,16 +121,6 @@ class Page:
         if others:
             cards.append(html(CARD, "out", "Suit none of these candidates", html("<ul>{}</ul>", others)))
         return html("<div class=cards>{}</div>", joined(cards))
-
-
-def bar(parts: Sequence[tuple[str, int]], whole: int, label: str) -> Markup:
-    """A bar of parts, each a kind and a length, to scale; SVG, since printers leave out backgrounds."""
-    shapes, left = "", 0.0
-    for kind, length in parts:
-        width = 100 * length / whole
-        shapes += f"<rect class={kind} x={left:.3f} y=0 width={width:.3f} height=10 />" if length else ""
-        left += width
-    return html(BAR, label, Markup(shapes))
 
 
 def chip(member: Member) -> Markup:

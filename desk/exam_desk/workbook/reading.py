@@ -63,7 +63,7 @@ def read_sheets(job: Job, sheets: list[Sheet], progress: Progress) -> None:
         if records := [record for table in found for record in table.records()]:
             job.records[kind] = records
         if kind == "sessions":
-            job.days |= {record.fields[0]: record.fields[1] for record in records}
+            job.known.days |= {record.fields[0]: record.fields[1] for record in records}
 
 
 # -- which sheet is what

@@ -182,7 +182,7 @@ class Table(Headed):
             if value.day:
                 column = "date" if name == "start" else "session"
                 said = self.job.said(column, here.get(self.header.columns.get(column, [0])[0]))
-                if value.day not in (*NO_DAY, said if name == "start" else self.job.days.get(said)):
+                if value.day not in (*NO_DAY, said if name == "start" else self.job.known.days.get(said)):
                     raise Wrong(f"has a date too, {value.day}, which is not that of the session: leave the time alone "
                                 "in its cell")
         except Wrong as fault:

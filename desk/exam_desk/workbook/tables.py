@@ -92,7 +92,6 @@ class Job:
     leave: list[str] = field(default_factory=list)  # sheets that are not read
     together: list[str] = field(default_factory=list)  # all sheets of such a kind are one list
     hidden: str = ""  # take or leave: what becomes of hidden rows
-    days: dict[str, str] = field(default_factory=dict)  # of the sessions that are imported with it
     papers: set[str] = field(default_factory=set)  # codes that the office or the workbook has
     records: dict[str, list[Record]] = field(default_factory=dict)  # by kind; those with a mistake are not written
     lines: list[Line] = field(default_factory=list)

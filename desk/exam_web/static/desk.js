@@ -95,57 +95,61 @@ function toWhatIsSaid() {
 addEventListener("load", () => setTimeout(toWhatIsSaid));  // behind the browser, which goes to where the address leads
 
 // files: chosen or dropped, a folder too
-const drop = document.getElementById("drop");
-if (drop) {
-  const wanted = /\.(csv|zip|xlsx|xlsm|ods|toml)$/i;
-  const tables = (found) => {  // a folder has other files, too
-    const some = found.filter((file) => wanted.test(file.name));
-    return some.length ? some : found.slice(0, 10);
-  };
-  const send = async (found) => {
-    const form = new FormData(drop);
-    form.delete("files");
-    for (const file of found) form.append("files", file, file.name);
-    const line = drop.querySelector(".big");
-    line.setAttribute("role", "status");  // first, so that what it says is announced
-    line.textContent = drop.dataset.working;
-    try {
-      const answer = await fetch(drop.action, {method: "POST", body: form, credentials: "same-origin"});
-      if (answer.redirected) {
-        location.href = answer.url;
-        return;
-      }
-      const found = new DOMParser().parseFromString(await answer.text(), "text/html");
-      document.title = found.title;
-      document.querySelector("main").replaceChildren(...found.querySelector("main").children);
-      toWhatIsSaid();
-    } catch {
-      line.textContent = drop.dataset.nothing;
+const wanted = /\.(csv|zip|xlsx|xlsm|ods|toml)$/i;
+function tables(found) {  // a folder has other files, too
+  const some = found.filter((file) => wanted.test(file.name));
+  return some.length ? some : found.slice(0, 10);
+}
+async function send(drop, found) {
+  const form = new FormData(drop);
+  form.delete("files");
+  for (const file of found) form.append("files", file, file.name);
+  const line = drop.querySelector(".big");
+  line.setAttribute("role", "status");  // first, so that what it says is announced
+  line.textContent = drop.dataset.working;
+  try {
+    const answer = await fetch(drop.action, {method: "POST", body: form, credentials: "same-origin"});
+    if (answer.redirected) {
+      location.href = answer.url;
+      return;
     }
-  };
+    const page = new DOMParser().parseFromString(await answer.text(), "text/html");
+    document.title = page.title;
+    document.querySelector("main").replaceChildren(...page.querySelector("main").children);
+    takeFiles();
+    toWhatIsSaid();
+  } catch {
+    line.textContent = drop.dataset.nothing;
+  }
+}
+async function read(entry) {
+  if (entry.isFile) return [await new Promise((done, fail) => entry.file(done, fail))];
+  const reader = entry.createReader(), found = [];
+  for (;;) {
+    const some = await new Promise((done, fail) => reader.readEntries(done, fail));
+    if (!some.length) return (await Promise.all(found.map(read))).flat();
+    found.push(...some.filter((each) => each.isFile));
+  }
+}
+function takeFiles() {
+  const drop = document.getElementById("drop");
+  if (!drop) return;
   for (const input of drop.querySelectorAll("[type=file]")) {
     input.addEventListener("change", () => {
-      if (input.files.length) send(input.webkitdirectory ? tables([...input.files]) : [...input.files]);
+      if (input.files.length) send(drop, input.webkitdirectory ? tables([...input.files]) : [...input.files]);
     });
   }
   drop.addEventListener("dragover", (event) => { event.preventDefault(); drop.classList.add("over"); });
   drop.addEventListener("dragleave", () => drop.classList.remove("over"));
-  const read = async (entry) => {
-    if (entry.isFile) return [await new Promise((done, fail) => entry.file(done, fail))];
-    const reader = entry.createReader(), found = [];
-    for (;;) {
-      const some = await new Promise((done, fail) => reader.readEntries(done, fail));
-      if (!some.length) return (await Promise.all(found.map(read))).flat();
-      found.push(...some.filter((each) => each.isFile));
-    }
-  };
   drop.addEventListener("drop", async (event) => {
     event.preventDefault();
     drop.classList.remove("over");
     const entries = [...event.dataTransfer.items].map((item) => item.webkitGetAsEntry()).filter(Boolean);
-    send((await Promise.all(entries.map(async (each) => each.isFile ? read(each) : tables(await read(each))))).flat());
+    const found = await Promise.all(entries.map(async (each) => each.isFile ? read(each) : tables(await read(each))));
+    send(drop, found.flat());
   });
 }
+takeFiles();
 
 // each hall has a list of its own to tick who is absent: one is sent with all
 addEventListener("formdata", (event) => {
