@@ -152,12 +152,10 @@ def read_books(upload: Upload) -> None:
     are. Where no line is a mistake their rows are taken as files, too."""
     if not (book := together(upload)).sheets:
         return
-    brought = {kind: [row.fields for row in below_header(content)
-                      if len(row.fields) == len(files.HEADERS[kind]) and all(map(files.is_utf_8, row.fields))]
-               for kind, content in upload.texts.items()}
     known, there = mistakes.Known(view().reading.rows), {folded(sheet.name) for sheet in book.sheets}
-    for kind, rows in brought.items():
-        known.take(kind, rows)
+    for kind, content in upload.texts.items():
+        known.take(kind, [row.fields for row in below_header(content)
+                          if len(row.fields) == len(files.HEADERS[kind]) and all(map(files.is_utf_8, row.fields))])
     names = [sheet.name for sheet in book.sheets] if upload.hidden == "take" else None
     given = {kind: says for kind, says in (upload.given or {}).items()
              if len(upload.books) == 1 or not says.sheet or folded(says.sheet) in there}

@@ -28,7 +28,7 @@ import rawbook  # noqa: E402
 from exam_desk import files  # noqa: E402
 from exam_desk.mistakes import Known  # noqa: E402
 from exam_desk.office import Trouble  # noqa: E402
-from exam_desk.workbook import cells, child, opening  # noqa: E402
+from exam_desk.workbook import cells, child, numberformats, opening  # noqa: E402
 from exam_desk.workbook.cells import Sheet, packed, unpacked  # noqa: E402
 from exam_desk.workbook.headers import read_columns  # noqa: E402
 from exam_desk.workbook.reading import (mend_folder, new_folder, put_workbook, read_book, workbook_of, write_folder,
@@ -221,6 +221,20 @@ class Limits(unittest.TestCase):
             book = unpacked(child.read(rawbook.xlsx(cases.candidates(cases.ADA, [], [], cases.BO, merge=merge))))
             with mock.patch("exam_desk.workbook.rows.MOST_MERGED", 2), self.assertRaisesRegex(Trouble, "cells cover more than 2 rows"):
                 read_book(book, Job(Known()))
+
+
+class Numbers(unittest.TestCase):
+    def test_what_a_number_format_shows(self) -> None:
+        """As Excel shows it; a moment only where it is shown as the files have it, and no number that lost digits."""
+        for raw, form, kind, text, shown in (
+                ("1000000000000000", "0", "number", "1000000000000000", "1000000000000000"),
+                ("1000000000000001", "0", "number", "1.00000E+15", "1.00000E+15"),
+                ("-1234567890123456", "General", "number", "-1.23457E+15", "-1.23457E+15"),
+                ("2.5", "0", "number", "2.5", "3"), ("-2.5", "0", "number", "-2.5", "-3"), ("0.125", "0.00", "number", "0.125", "0.13"),
+                ("46539", "yyyy-mm-dd", "date", "2027-06-01", "2027-06-01"), ("46539", "d.m.yyyy", "date", "2027-06-01", ""),
+                ("46539", "YYYY\\-MM\\-DD;@", "date", "2027-06-01", "2027-06-01"), ("0.375", "hh:mm;@", "time", "09:00:00", "09:00"),
+                ("0.375", "h:mm", "time", "09:00:00", "")):
+            self.assertEqual((kind, text, shown), numberformats.number_cell(raw, form)[:3], (raw, form))
 
 
 class Columns(unittest.TestCase):
