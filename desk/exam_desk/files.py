@@ -117,8 +117,7 @@ def below_header(text: bytes, path: str, header: Iterable[str], comma: bytes = b
     if line := next((row.line for row in records(text, comma) if not all(map(is_utf_8, row.fields))), 0):
         raise Trouble(f"line {line}: {NO_UTF_8}; nothing is done", path)
     rows = records(text, comma)
-    first = next(rows, None)
-    if first is None or first.fields != tuple(map(str.encode, header)):
+    if (first := next(rows, None)) is None or first.fields != tuple(map(str.encode, header)):
         raise Trouble(f"line 1 must be: {','.join(header)}", path)
     return rows
 

@@ -133,8 +133,7 @@ def no_codes(count: int) -> str:
 
 def with_zeros(field: bytes) -> bytes:
     """A number with the zeros that a spreadsheet takes away; every other value as it is."""
-    match = LOST_ZEROS(field)
-    return match[1].zfill(7) if match else field
+    return match[1].zfill(7) if (match := LOST_ZEROS(field)) else field
 
 
 def needed(column: str, field: bytes) -> str:

@@ -304,6 +304,12 @@ class Told(unittest.TestCase):
                           *(f"Candidates!B{row}: MISTAKE: name is missing; Candidates!B1204 above has Bo: fill it down if it counts here too"
                             for row in (1205, 1206))], [line.whole() for line in job.lines if line.sort == "mistake"])
 
+    def test_what_is_joined_of_empty_cells_is_missing_once(self) -> None:
+        book = opening.read_csv(b"number,Forename,Surname,code\n0000001,,,CODE0001\n0000002,,Lin,CODE0002\n", "candidates")
+        job = read_book(book, Job(Known()))
+        self.assertEqual(["candidates!B2: MISTAKE: name is missing"], [line.whole() for line in job.lines if line.sort == "mistake"])
+        self.assertEqual("Lin", job.records["candidates"][1].fields[1])
+
     def test_nothing_is_said_of_what_is_not_read_or_above_the_first_row(self) -> None:
         rows = [*cases.CANDIDATES, "Age"], [None, "Ada", "CODE0001", ("f", "1+1", 2)]
         lines = read_book(unpacked(child.read(rawbook.xlsx(cases.sheet("Candidates", *rows)))), Job(Known())).lines

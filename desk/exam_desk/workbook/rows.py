@@ -61,8 +61,7 @@ class Table(Headed):
 
     def filled_cells(self) -> dict[tuple[int, int], Cell]:
         """What the cells that are merged downwards say for the rows below their first."""
-        filled: dict[tuple[int, int], Cell] = {}
-        covered = 0
+        filled, covered = dict[tuple[int, int], Cell](), 0
         for top, left, bottom, right in self.sheet.merged:
             covered += max(1, min(bottom, self.last) - top)
             if covered > MOST_MERGED:
@@ -75,7 +74,7 @@ class Table(Headed):
         """What a merged cell says for its rows. A value below it is one that nobody sees."""
         reach, rows = f"{letters_of(left)}{top}:{letters_of(right)}{bottom}", range(top, min(bottom, self.last) + 1)
         under = [(row, place, value) for row in rows for place, value in sorted(self.below.get(row, {}).items())
-                 if place in self.places and left <= place <= right and (row, place) != (top, left) and seen(value)]
+                 if left <= place <= right and (row, place) != (top, left) and seen(value)]
         for row, place, value in under:
             self.mistake(row, place, f"{shown_of(value)!r} is hidden by the merged cells {reach}: split them", "covered")
         cell = seen(self.sheet.rows.get(top, {}).get(left))
