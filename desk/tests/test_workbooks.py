@@ -196,6 +196,8 @@ class Limits(unittest.TestCase):
         letter = odd.changed(rawbook.ods(""), "content.xml", "office:spreadsheet", "office:text")
         self.refused("it is a document of another kind", letter)
         self.refused("it is broken or cut short .ExpatError", self.with_sheet("<worksheet><sheetData>"))
+        elsewhere = odd.changed(rawbook.xlsx(cases.candidates(cases.ADA)), "xl/_rels/workbook.xml.rels", "Target=", 'TargetMode="External" Target=')
+        self.refused("it is broken or cut short .KeyError", elsewhere)  # no link to another file is followed
         with mock.patch.object(opening, "MOST_FILE", 9), self.assertRaisesRegex(Trouble, "it is larger than"):
             opening.book_of(b"number,nam", "candidates.csv")
         with self.assertRaisesRegex(Trouble, "cannot be read: it is no file"):
