@@ -218,6 +218,11 @@ class Limits(unittest.TestCase):
         self.assertEqual(300, job.count("mistake"))
         self.assertLess(time.process_time() - began, 10)
 
+    def test_spaces_that_are_counted_have_a_limit(self) -> None:
+        cell = '<table:table-cell office:value-type="string"><text:p>a<text:s text:c="5000"/>b</text:p></table:table-cell>'
+        book = unpacked(child.read(rawbook.ods(f'<table:table table:name="x">{rawbook.ods_row(cell)}</table:table>')))
+        self.assertEqual(f"a{1000 * ' '}b", book.sheets[0].rows[1][1].text)
+
     def test_merged_cells_have_a_limit(self) -> None:
         for merge in ["A2:A3", "B2:B4"], ["A2:B2", "A3:B3", "A8:B9"]:
             book = unpacked(child.read(rawbook.xlsx(cases.candidates(cases.ADA, [], [], cases.BO, merge=merge))))
