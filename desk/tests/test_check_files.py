@@ -278,7 +278,8 @@ class Words(unittest.TestCase):
                 ("code", b"", ""), ("date", b"13/06/2027", "2027-06-13"), ("date", b"01/06/2027", ""),
                 ("date", b"7 June 2027", "2027-06-07"), ("until", b"2:30 pm", "14:30"), ("start", b"9.30", ""),
                 ("minutes", b"1 h 30", "90"), ("extra", b"", "0"), ("needs", b"Screen, reader", "screen+reader"),
-                ("start", b"2027-06-07 09:00", ""), ("start", b"'9:00 ", "09:00")):
+                ("start", b"2027-06-07 09:00", ""), ("start", b"'9:00 ", "09:00"),
+                ("date", b"Mo 7 June 2027", "2027-06-07"), ("date", b"M 7 June 2027", ""), ("date", b"Tue 7 June 2027", "")):
             self.assertEqual(mistakes.cure(column, value).write, write, (column, value))
 
     def test_empty_codes_are_counted_with_their_cure_and_are_not_compared(self):
