@@ -18,7 +18,7 @@ from exam_desk.office import Trouble
 from exam_desk.words import Said, clock, features, plain
 
 COMMAND = re.compile("(`[^`]+`)")
-NAMED = re.compile("`office (?P<name>[a-z-]+) ?(?:(?P<number>[0-9]{7}) .*|.*)`")
+NAMED = re.compile("`office ([a-z-]+).*`")
 PAGES = {"back": "office.page", "init": "season.page", "look": "candidates.find"}  # by the command that does the same
 MOST_LETTERS = 10  # of a name at a desk
 LANGUAGES: dict[str, dict[str, str]] = {
@@ -69,12 +69,9 @@ def value_said(value: object) -> Markup:
 
 def command_said(part: str) -> str:
     """A part of a text, which leads to a page where it is a command that has one."""
-    found, address = NAMED.fullmatch(part), ""
-    if found and found["number"]:
-        address = url_for("candidates.page", number=int(found["number"]))
-    elif found and found["name"] in PAGES:
-        address = url_for(PAGES[found["name"]])
-    return Markup('<a href="{}">{}</a>').format(address, part) if address else part
+    if (found := NAMED.fullmatch(part)) and found[1] in PAGES:
+        return Markup('<a href="{}">{}</a>').format(url_for(PAGES[found[1]]), part)
+    return part
 
 
 def many(count: int, one: str, more: str, **values: object) -> Markup:
