@@ -25,6 +25,7 @@ CURES = {
     "requires": FEATURES_CURE, "features": FEATURES_CURE, "needs": FEATURES_CURE,
 }
 NO_CODE = "code ''"  # the mistakes on empty codes, which are counted and not shown
+EMPTY_ROW = "an empty row of the spreadsheet: delete it"
 RIGHT = files.RIGHT
 LOST_ZEROS = re.compile(rb"([0-9]{1,7})(\.(?!000$)0+)?").fullmatch  # 1.000 is a thousand, too
 WRONG_LETTERS = re.compile("[ÂÃ][^!-~À-ÿ]|[ÄÅ][^ -~À-ÿ]|â€|\ufffd").search  # as UTF-8 looks in a Western encoding
@@ -262,7 +263,7 @@ class File:
 def fault_of(record: files.Record, wanted: int) -> str:
     """What is wrong with a row that has not as many fields as are wanted, or nothing in them; else nothing."""
     if not any(record.fields):
-        return "an empty row of the spreadsheet: delete it"
+        return EMPTY_ROW
     if (count := len(record.fields)) == wanted:
         return ""
     why = "a quote is not closed" if not record.closed else \
