@@ -45,7 +45,7 @@ def check_folder(office: Office, folder: str) -> tuple[list[str], Counter[str]]:
             why = "none of the seven names, so it is not looked at" if name.lower().endswith(".csv") else \
                 "a workbook: `office read` makes the files of it"
             lines.append(f"NOTE: {name} is {why}")
-    if texts and os.path.exists(office.path) and not counts["mistakes"] + counts["codes"]:
+    if os.path.exists(office.path) and not counts["mistakes"] + counts["codes"]:
         refused, met = would_do(office, texts)
         counts.update(mistakes=len(refused), notes=len(met))
         lines += [*refused, *(f"NOTE: once imported: {line}" for line in met)]
@@ -57,7 +57,8 @@ def would_do(office: Office, texts: Mapping[str, bytes]) -> tuple[list[str], lis
     steps = [Step(("import", kind, f"{kind}.csv"), text) for kind, text in texts.items()]
     with changing.rehearse(office, steps) as rehearsal:
         if refused := changing.refused_of(rehearsal.answers):
-            return [f"{refused.step.words[-1]}: {'; '.join(refused.explained())}"], []
+            means = "; ".join(refused.explained()) or refused.first_line()
+            return [f"{refused.step.words[-1]}: {means}"], []
         with Reading(office, rehearsal.before) as before, Reading(office, rehearsal.after) as after:
             met = effects.Effects(before, after)
             return [], met.said(effects.headlines(met.met), [], MOST_SHOWN)

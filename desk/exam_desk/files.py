@@ -88,8 +88,7 @@ def put(path: str, text: bytes) -> None:
 def records(text: bytes, comma: bytes = b",") -> Iterator[Record]:
     """The records of a file, the header among them. Blank lines are none; an open quote runs to the end. Python's
     reader finds them in texts, so each byte becomes a letter. It knows no byte order mark, and says nothing of an open
-    quote: such a quote holds the blank line that is put behind the file. Raises `csv.Error` at a record that is longer
-    than what an import takes."""
+    quote: such a quote holds the blank line that is put behind the file. `csv.Error` at one longer than a whole file."""
     line, size, closed = 1, 0, True
 
     def lines() -> Iterator[str]:
@@ -107,10 +106,7 @@ def records(text: bytes, comma: bytes = b",") -> Iterator[Record]:
         if fields:
             if not closed:
                 fields[-1] = fields[-1][:-1]
-            row: list[str | bytes] = fields  # type: ignore[assignment]
-            for place, field in enumerate(fields):  # a row can have a million texts: each goes as its bytes come
-                row[place] = field.encode("latin-1")
-            yield Record(line, tuple(row), closed)  # type: ignore[arg-type]
+            yield Record(line, tuple([field.encode("latin-1") for field in fields]), closed)
         line = reader.line_num + 1
 
 
@@ -121,8 +117,7 @@ def below_header(text: bytes, path: str, header: Iterable[str], comma: bytes = b
     if line := next((row.line for row in records(text, comma) if not all(map(is_utf_8, row.fields))), 0):
         raise Trouble(f"line {line}: {NO_UTF_8}; nothing is done", path)
     rows = records(text, comma)
-    first = next(rows, None)
-    if first is None or first.fields != tuple(map(str.encode, header)):
+    if (first := next(rows, None)) is None or first.fields != tuple(map(str.encode, header)):
         raise Trouble(f"line 1 must be: {','.join(header)}", path)
     return rows
 

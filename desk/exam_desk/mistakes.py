@@ -28,7 +28,7 @@ NO_CODE = "code ''"  # the mistakes on empty codes, which are counted and not sh
 EMPTY_ROW = "an empty row of the spreadsheet: delete it"
 RIGHT = files.RIGHT
 LOST_ZEROS = re.compile(rb"([0-9]{1,7})(\.(?!000$)0+)?").fullmatch  # 1.000 is a thousand, too
-WRONG_LETTERS = re.compile("Ã.|Â.|â€|Å[\x80-\xbf¡-ÿ€-™]|\ufffd").search  # of another encoding
+WRONG_LETTERS = re.compile("[ÂÃ][^!-~À-ÿ]|[ÄÅ][^ -~À-ÿ]|â€|\ufffd").search  # as UTF-8 looks in a Western encoding
 NOT_TYPED = re.compile("^ | $|[\u00a0\u2007\u202f“”„‟‘’‚‛]").search  # but made by a word processor
 LIKE_A_NUMBER = re.compile(rb"[0-9]+E[0-9]+|[1-9][0-9]?0{4,}").fullmatch
 
@@ -134,8 +134,7 @@ def no_codes(count: int) -> str:
 
 def with_zeros(field: bytes) -> bytes:
     """A number with the zeros that a spreadsheet takes away; every other value as it is."""
-    match = LOST_ZEROS(field)
-    return match[1].zfill(7) if match else field
+    return match[1].zfill(7) if (match := LOST_ZEROS(field)) else field
 
 
 def needed(column: str, field: bytes) -> str:
@@ -267,7 +266,6 @@ def fault_of(record: files.Record, wanted: int) -> str:
         return EMPTY_ROW
     if (count := len(record.fields)) == wanted:
         return ""
-    why = "values are missing" if count < wanted else "put a value with a comma in double quotes"
-    if not record.closed:
-        why = "a quote is not closed"
+    why = "a quote is not closed" if not record.closed else \
+        "values are missing" if count < wanted else "put a value with a comma in double quotes"
     return f"{count} in place of {wanted} fields; {why}"

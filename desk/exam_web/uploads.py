@@ -6,7 +6,7 @@ becomes a path: it is compared and shown. A zip is read in memory and never unpa
 import datetime
 import itertools
 import zipfile
-from collections import Counter, defaultdict
+from collections import Counter
 from collections.abc import Callable, Iterable, Iterator, Mapping
 from dataclasses import dataclass, field, replace
 from functools import partial
@@ -34,7 +34,7 @@ from exam_web.proposals import PLANS, Plan
 from exam_web.wording import many, said, shown, text
 
 pages = Blueprint("files", __name__)
-MOST_MEMBERS, MOST_NAME = 64, 80  # of a zip; letters that are shown
+MOST_MEMBERS, MOST_NAME = 64, 80  # of a zip with the files before it; letters that are shown
 NO_TABLE = (".pdf", ".doc", ".docx", ".odt", ".rtf", ".pages", ".numbers", ".jpg", ".jpeg", ".png", ".gif", ".webp",
             ".heic")
 HIDDEN = (".", "~$")  # how names begin of what macOS adds, and of what Excel keeps beside a workbook that is open
@@ -116,7 +116,7 @@ def parts(upload: Upload, storages: Iterable[FileStorage]) -> Iterator[tuple[str
 
 def members(upload: Upload, name: str, archive: zipfile.ZipFile) -> Iterator[tuple[str, bytes, int]]:
     found = [each for each in archive.infolist() if bare(each.filename) and not each.is_dir()]
-    if not 0 < len(found) <= MOST_MEMBERS:
+    if not 0 < len(found) <= MOST_MEMBERS - len(upload.names):
         upload.note(name, text("it holds {count} files; give the seven alone", count=len(found)))
         found = []
     for each in found:
@@ -152,12 +152,10 @@ def read_books(upload: Upload) -> None:
     are. Where no line is a mistake their rows are taken as files, too."""
     if not (book := together(upload)).sheets:
         return
-    brought = {kind: [row.fields for row in below_header(content)
-                      if len(row.fields) == len(files.HEADERS[kind]) and all(map(files.is_utf_8, row.fields))]
-               for kind, content in upload.texts.items()}
     known, there = mistakes.Known(view().reading.rows), {folded(sheet.name) for sheet in book.sheets}
-    for kind, rows in brought.items():
-        known.take(kind, rows)
+    for kind, content in upload.texts.items():
+        known.take(kind, [row.fields for row in below_header(content)
+                          if len(row.fields) == len(files.HEADERS[kind]) and all(map(files.is_utf_8, row.fields))])
     names = [sheet.name for sheet in book.sheets] if upload.hidden == "take" else None
     given = {kind: says for kind, says in (upload.given or {}).items()
              if len(upload.books) == 1 or not says.sheet or folded(says.sheet) in there}
@@ -256,12 +254,11 @@ def asks(upload: Upload, looked: Mapping[str, Looked]) -> bool:
 def corrected(kind: str, content: bytes, faults: list[Mistake], form: Form) -> tuple[bytes, int]:
     """The file with what was typed, or with all clear cures, and how many of its rows are other ones; every other value
     keeps its bytes."""
-    wrong, rows, others = defaultdict[int, list[Mistake]](list), [files.HEADERS[kind]], 0
-    for each in faults:
-        wrong[each.line].append(each)
+    wrong = {line: [*found] for line, found in itertools.groupby(faults, lambda each: each.line)}
+    rows, others = [files.HEADERS[kind]], 0
     for record in below_header(content):
         was = [part.decode("utf-8", "surrogateescape") for part in record.fields]
-        fields = corrected_row(kind, was, wrong[record.line], form)
+        fields = corrected_row(kind, was, wrong.get(record.line, []), form)
         others += fields != was
         rows += [fields] * (fields != [])
     return files.written(rows).encode("utf-8", "surrogateescape"), others

@@ -184,6 +184,32 @@ class Verdicts(sample.SampleSchool):
         self.assertIn(line, said)
         self.assertRegex(said, "\n7 files, [1-9][0-9]* mistakes?, 0 notes\n$")
 
+    def checked(self, **texts):
+        with tempfile.TemporaryDirectory(dir=self.folder) as folder:
+            for kind, text in texts.items():
+                self.write(os.path.join(folder, f"{kind}.csv"), f"{','.join(files.HEADERS[kind])}\n{text}")
+            return checking.check_folder(self.value, folder)
+
+    def test_all_mistakes_and_notes_are_counted(self):
+        """Of seven on a column five are shown. What the program alone refuses is a mistake, too."""
+        lines, counts = self.checked(halls="".join(f"N{place},Hall ,x\n" for place in range(7)),
+                                     candidates="0009001,Zed,\n0009002,Zoe,\n")
+        self.assertEqual({"files": 2, "mistakes": 7, "codes": 2, "notes": 7}, counts)
+        self.assertEqual((["halls.csv: .. and 2 more lines on features", "halls.csv: .. and 2 more lines on title"], 13),
+                         ([line for line in lines if " more " in line], len(lines)))
+        lines, counts = self.checked(sessions="".join(f"S{place},2027-06-07,09:00\n" for place in range(398)))
+        self.assertEqual(({"files": 1, "mistakes": 1, "codes": 0, "notes": 0}, [
+            "sessions.csv: a limit would be passed, or the file is too long; the handbook lists the limits"]), (counts, lines))
+        with mock.patch("exam_desk.refusals.SENTENCES", {}):
+            lines, _ = self.checked(sessions="".join(f"S{place},2027-06-07,09:00\n" for place in range(398)))
+        self.assertEqual(["sessions.csv: refused 20"], lines)
+        papers = (self.examples / "papers.csv").read_text("utf-8").splitlines(True)[1:]
+        lines, counts = self.checked(papers="".join(line.replace(",", ",New ", 1) for line in papers))
+        self.assertEqual((1, 0), (counts["notes"], counts["mistakes"]))
+        self.assertRegex("\n".join(lines), "^NOTE: once imported: 10 values of rows changed: (.* title .* -> New .*; ){4}.* -> New .* and 5 more$")
+        self.assertEqual(([], 0), (self.checked()[0], self.checked()[1]["files"]))
+        self.assertEqual("office: none of the seven files is there\n", self.refused("check-files", "."))
+
     def test_a_folder_in_the_place_of_a_file(self):
         os.mkdir(os.path.join(self.folder, "halls.csv"))
         self.assertIn("halls.csv: is no file, but a folder", self.refused("check-files", "."))
@@ -224,7 +250,8 @@ class Words(unittest.TestCase):
         """Nothing of such a file is looked at: `office mend` reads it."""
         for text, line in ((b"number;name;code\n1000;Ada;x\n", "number;name;code"), (b"\n number,name\n1000,Ada\n", "number,name"),
                            (files.BOM + b"Number,Name,Code\r\n", "Number,Name,Code"), (b"", ""), (b"sep=,\nnumber,name,code\n", "sep=,"),
-                           (b"session,date,start\n", "session,date,start")):
+                           (b"session,date,start\n", "session,date,start"),
+                           (b"number,name,code,and,many,more,columns,of,the,export\n", "number,name,code,and,many,more,columns,of,the,export")):
             self.assertEqual(self.mistakes_in("candidates", text), ([self.no_header("number,name,code", line)], []))
 
     def no_header(self, header, line):
@@ -238,6 +265,10 @@ class Words(unittest.TestCase):
                 (b",,,", "an empty row of the spreadsheet: delete it"),
                 (b'0001000,"Ada', "2 in place of 3 fields; a quote is not closed")):
             self.assertEqual(self.mistakes_in("candidates", b"number,name,code\n" + row), ([said], []), row)
+
+    def test_rows_without_a_key_are_not_compared(self):
+        self.assertEqual(["seven digits; format the column as text"] * 2, self.mistakes_in(
+            "candidates", b"number,name,code\n,Ada,CODE0001\n,Bo,CODE0002\n")[0])
 
     def test_dates_and_times_are_put_right(self):
         text = b"session,date,start\nS1,15.1.2027,9:00\nS2,2027-01-15,13:30:00\nS3,1/2/2027,09:00\n"
@@ -257,7 +288,8 @@ class Words(unittest.TestCase):
                 ("code", b"", ""), ("date", b"13/06/2027", "2027-06-13"), ("date", b"01/06/2027", ""),
                 ("date", b"7 June 2027", "2027-06-07"), ("until", b"2:30 pm", "14:30"), ("start", b"9.30", ""),
                 ("minutes", b"1 h 30", "90"), ("extra", b"", "0"), ("needs", b"Screen, reader", "screen+reader"),
-                ("start", b"2027-06-07 09:00", "")):
+                ("start", b"2027-06-07 09:00", ""), ("start", b"'9:00 ", "09:00"),
+                ("date", b"Mo 7 June 2027", "2027-06-07"), ("date", b"M 7 June 2027", ""), ("date", b"Tue 7 June 2027", "")):
             self.assertEqual(mistakes.cure(column, value).write, write, (column, value))
 
     def test_empty_codes_are_counted_with_their_cure_and_are_not_compared(self):
@@ -288,6 +320,26 @@ class Words(unittest.TestCase):
             "may be what a spreadsheet made of a code such as 1E5, or will make of it",
             "has a space at an end, or a sign that no keyboard writes: is it meant?"])
 
+    def test_names_that_nobody_typed_so(self):
+        for text in "Ada ", " Ada", "Ada\u202e", "A\u00a0B", "A\u2007B", "A\u202fB", *(f"O{quote}Neil" for quote in "“”„‟‘’‚‛"):
+            self.assertTrue(mistakes.note_on("title", text.encode()).startswith("has a space at an end, or a sign"), ascii(text))
+        for text in "FranÃ§ois", "Ã Bo", "Ã\u00a0", "Â°C", "Oâ€™Neil", "ÅŸahin", "MiÅ‚osz", "GÄ™sior", "Å\u0081", "A\ufffdB":
+            self.assertEqual("looks like letters that were read in a wrong encoding", mistakes.note_on("name", text.encode()), text)
+        for text in "O'Neil", "Zoë Ångström", "Å i Lofoten", "JOÃO", "PÄÄSKYNEN", "ÅÄÖ", "Ada  Lin", "\u05d0\u05d1", "Â", "a-b. (c)":
+            self.assertEqual("", mistakes.note_on("name", text.encode()), text)
+        self.assertEqual("", mistakes.note_on("date", b"2027-06-07 "))
+
+    def test_what_is_wrong_with_a_name(self):
+        for value, said in ((b"A\tB", "it holds a line end or another control character"),
+                            (b"A\xff", "the letters are no UTF-8: save the file as CSV UTF-8"),
+                            (41 * "é".encode(), "1 to 80 bytes; it has 82"), (b"", "1 to 80 bytes; it has 0")):
+            self.assertEqual((said, ""), mistakes.cure("title", value))
+
+    def test_a_code_that_a_spreadsheet_makes_a_number_of(self):
+        for code, is_noted in ((b"1E4", True), (b"10000", True), (b"120000", True), (b"1000", False), (b"1230000", False),
+                               (b"10000A", False), (b"E4", False)):
+            self.assertEqual(is_noted, mistakes.note_on("paper", code) != "", code)
+
     def test_one_access_code_for_all(self):
         """As where a spreadsheet filled it down: a note on each, and no row is compared with each other one."""
         text = b"number,name,code\n" + b"".join(b"%07d,A%d,CODE0001\n" % (place, place) for place in range(1, 20_001))
@@ -302,6 +354,8 @@ class Words(unittest.TestCase):
         known.take("candidates", [(b"0000001", b"Ada", b"CODE0001")])
         text = b"number,name,code\n0000002,Bo,CODE0001\n"
         self.assertEqual(self.mistakes_in("candidates", text, known)[1], ["2 candidates have this access code"])
+        [note] = mistakes.looked_through("candidates", text, known)[1]
+        self.assertEqual((2, "number '0000002'"), (note.line, note.what))
         text += b"0000001,Ada,CODE0009\n"
         self.assertEqual(self.mistakes_in("candidates", text, known), ([], []))
 
@@ -324,6 +378,9 @@ class Words(unittest.TestCase):
     def test_a_long_file_is_not_read(self):
         with mock.patch("exam_desk.files.MOST_BYTES", 20), self.assertRaisesRegex(Trouble, "a.csv: is longer than 20 bytes"):
             files.below_header(b"number,paper\n1,MA-1\n\n"[:21], "a.csv", ["number", "paper"])
+        with mock.patch("exam_desk.files.MOST_BYTES", 19):
+            self.assertEqual((["more than 19 bytes: split it"], 0), (self.mistakes_in("entries", b"number,paper\n1,MA-1\n")[0][:1],
+                                                                   len(self.mistakes_in("entries", b"number,paper\n,MA-1\n")[0]) - 1))
 
     def test_where_records_begin_and_end(self):
         text = files.BOM + 'a,Å\x0b\x1c\u2028\n\n\r"b\r\nc",""\r\nd\r"e""'.encode()  # in UTF-8 Å has the byte 85

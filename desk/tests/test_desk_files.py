@@ -211,6 +211,9 @@ class TestFiles(Uploads):
             self.assertIn("No mistake", self.browser.words(page), name)
             _, found = self.browser.ask("GET", page + "/entries.csv")
             self.assertEqual(found.removeprefix("\ufeff"), '"number","paper"\n"0001051","EN-1"\n', name)
+        words = self.browser.words(self.upload(("entries.csv", b"number;paper\n1051;EN-1\n1068;EN-1\n1085;EN-1\n1000;EN-1\n")))
+        self.assertIn("What is read of workbooks 0 mistakes, 4 values read in another form", words)
+        self.assertIn("became 0001051 (zeros in front); 4 such changes", words)
         png = b"\x89PNG\r\n\x1a\n" + bytes(range(256))
         for name, content, said in (
                 ("x.dat", png, "x.dat : it is no workbook, whatever its name: open it in a spreadsheet and save it"),
@@ -554,6 +557,10 @@ class TestFiles(Uploads):
         self.assertIn("many.zip : it holds 65 files", text)
         most = zipped({f"{place}.csv": "x" for place in range(63)} | {"halls.csv": HALLS})
         self.assertNotIn("it holds 64 files", self.browser.words(self.upload(("most.zip", most))))
+        half = zipped({f"{place}.csv": "x" for place in range(33)})
+        text = self.browser.words(self.upload(("a.zip", half), ("b.zip", half)))
+        self.assertIn("b.zip : it holds 33 files", text)
+        self.assertNotIn("a.zip : it holds", text)
         self.assertIn("Nothing could be taken", text)
         self.assertIn("none.zip : it holds 0 files", self.browser.words(self.upload(("none.zip", zipped({})))))
         self.assertEqual(self.upload(), "/files")

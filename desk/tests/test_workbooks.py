@@ -28,7 +28,7 @@ import rawbook  # noqa: E402
 from exam_desk import files  # noqa: E402
 from exam_desk.mistakes import Known  # noqa: E402
 from exam_desk.office import Trouble  # noqa: E402
-from exam_desk.workbook import cells, child, opening  # noqa: E402
+from exam_desk.workbook import cells, child, numberformats, opening  # noqa: E402
 from exam_desk.workbook.cells import Sheet, packed, unpacked  # noqa: E402
 from exam_desk.workbook.headers import read_columns  # noqa: E402
 from exam_desk.workbook.reading import (mend_folder, new_folder, put_workbook, read_book, workbook_of, write_folder,
@@ -196,6 +196,8 @@ class Limits(unittest.TestCase):
         letter = odd.changed(rawbook.ods(""), "content.xml", "office:spreadsheet", "office:text")
         self.refused("it is a document of another kind", letter)
         self.refused("it is broken or cut short .ExpatError", self.with_sheet("<worksheet><sheetData>"))
+        elsewhere = odd.changed(rawbook.xlsx(cases.candidates(cases.ADA)), "xl/_rels/workbook.xml.rels", "Target=", 'TargetMode="External" Target=')
+        self.refused("it is broken or cut short .KeyError", elsewhere)  # no link to another file is followed
         with mock.patch.object(opening, "MOST_FILE", 9), self.assertRaisesRegex(Trouble, "it is larger than"):
             opening.book_of(b"number,nam", "candidates.csv")
         with self.assertRaisesRegex(Trouble, "cannot be read: it is no file"):
@@ -216,11 +218,30 @@ class Limits(unittest.TestCase):
         self.assertEqual(300, job.count("mistake"))
         self.assertLess(time.process_time() - began, 10)
 
+    def test_spaces_that_are_counted_have_a_limit(self) -> None:
+        cell = '<table:table-cell office:value-type="string"><text:p>a<text:s text:c="5000"/>b</text:p></table:table-cell>'
+        book = unpacked(child.read(rawbook.ods(f'<table:table table:name="x">{rawbook.ods_row(cell)}</table:table>')))
+        self.assertEqual(f"a{1000 * ' '}b", book.sheets[0].rows[1][1].text)
+
     def test_merged_cells_have_a_limit(self) -> None:
         for merge in ["A2:A3", "B2:B4"], ["A2:B2", "A3:B3", "A8:B9"]:
             book = unpacked(child.read(rawbook.xlsx(cases.candidates(cases.ADA, [], [], cases.BO, merge=merge))))
             with mock.patch("exam_desk.workbook.rows.MOST_MERGED", 2), self.assertRaisesRegex(Trouble, "cells cover more than 2 rows"):
                 read_book(book, Job(Known()))
+
+
+class Numbers(unittest.TestCase):
+    def test_what_a_number_format_shows(self) -> None:
+        """As Excel shows it; a moment only where it is shown as the files have it, and no number that lost digits."""
+        for raw, form, kind, text, shown in (
+                ("1000000000000000", "0", "number", "1000000000000000", "1000000000000000"),
+                ("1000000000000001", "0", "number", "1.00000E+15", "1.00000E+15"),
+                ("-1234567890123456", "General", "number", "-1.23457E+15", "-1.23457E+15"),
+                ("2.5", "0", "number", "2.5", "3"), ("-2.5", "0", "number", "-2.5", "-3"), ("0.125", "0.00", "number", "0.125", "0.13"),
+                ("46539", "yyyy-mm-dd", "date", "2027-06-01", "2027-06-01"), ("46539", "d.m.yyyy", "date", "2027-06-01", ""),
+                ("46539", "YYYY\\-MM\\-DD;@", "date", "2027-06-01", "2027-06-01"), ("0.375", "hh:mm;@", "time", "09:00:00", "09:00"),
+                ("0.375", "h:mm", "time", "09:00:00", "")):
+            self.assertEqual((kind, text, shown), numberformats.number_cell(raw, form)[:3], (raw, form))
 
 
 class Columns(unittest.TestCase):
@@ -289,6 +310,12 @@ class Told(unittest.TestCase):
         self.assertEqual(["Candidates!B2: MISTAKE: name is missing",
                           *(f"Candidates!B{row}: MISTAKE: name is missing; Candidates!B1204 above has Bo: fill it down if it counts here too"
                             for row in (1205, 1206))], [line.whole() for line in job.lines if line.sort == "mistake"])
+
+    def test_what_is_joined_of_empty_cells_is_missing_once(self) -> None:
+        book = opening.read_csv(b"number,Forename,Surname,code\n0000001,,,CODE0001\n0000002,,Lin,CODE0002\n", "candidates")
+        job = read_book(book, Job(Known()))
+        self.assertEqual(["candidates!B2: MISTAKE: name is missing"], [line.whole() for line in job.lines if line.sort == "mistake"])
+        self.assertEqual("Lin", job.records["candidates"][1].fields[1])
 
     def test_nothing_is_said_of_what_is_not_read_or_above_the_first_row(self) -> None:
         rows = [*cases.CANDIDATES, "Age"], [None, "Ada", "CODE0001", ("f", "1+1", 2)]

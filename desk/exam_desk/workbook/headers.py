@@ -98,8 +98,7 @@ def match_header(kind: str, row: int, cells: Mapping[int, Cell], given: Given, n
     header = Header(row, {}, {})
     for name in names or files.HEADERS[kind]:
         words = [{folded(each)} for each in given.headers.get(name, [])] or [HEADER_WORDS[kind, name]]
-        places = [sorted((column for column, head in heads.items() if head in these),
-                         key=lambda column: (heads[column] != name, column)) for these in words]
+        places = [sorted(column for column, head in heads.items() if head in these) for these in words]
         if all(places):
             header.columns[name] = [columns[0] for columns in places]
         header.twice.update({name: columns for columns in places if len(columns) > 1})

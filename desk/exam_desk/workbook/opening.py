@@ -66,9 +66,7 @@ def is_zip(data: bytes, encoding: str | None) -> bool:
 
 def ask_child(what: str, data: bytes) -> bytes:
     """What the process with limits answers. Where this python lacks openpyxl, Debian's may have it."""
-    python = sys.executable
-    if importlib.util.find_spec("openpyxl") is None and pathlib.Path(PYTHON).exists():
-        python = PYTHON
+    python = PYTHON if importlib.util.find_spec("openpyxl") is None and os.path.exists(PYTHON) else sys.executable
     try:
         done = subprocess.run([python, "-B", str(CHILD), what], input=data, capture_output=True, check=False,
                               timeout=MOST_SECONDS)

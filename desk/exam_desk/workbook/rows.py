@@ -55,15 +55,13 @@ class Table(Headed):
         texts = [row for row, cell in cells if AS_TEXT.fullmatch(bare(cell.text))]
         for row, cell in cells if texts else ():
             if cell.kind == "date" and cell.text[8:10] <= "12":
-                beside = place_name(self.sheet, texts[0], place)
-                text = f"date {shown_of(cell)}: a true date, but {beside} is a text: such a mixture arises where a " \
-                       "spreadsheet turns day and month round; type these dates again in the form YYYY-MM-DD"
-                self.mistake(row, place, text, "mixed")
+                self.mistake(row, place, f"date {shown_of(cell)}: a true date, but {place_name(self.sheet, texts[0], place)}"
+                             " is a text: such a mixture arises where a spreadsheet turns day and month round; type these "
+                             "dates again in the form YYYY-MM-DD", "mixed")
 
     def filled_cells(self) -> dict[tuple[int, int], Cell]:
         """What the cells that are merged downwards say for the rows below their first."""
-        filled: dict[tuple[int, int], Cell] = {}
-        covered = 0
+        filled, covered = dict[tuple[int, int], Cell](), 0
         for top, left, bottom, right in self.sheet.merged:
             covered += max(1, min(bottom, self.last) - top)
             if covered > MOST_MERGED:
@@ -75,12 +73,10 @@ class Table(Headed):
     def filled_by(self, top: int, left: int, bottom: int, right: int) -> dict[tuple[int, int], Cell]:
         """What a merged cell says for its rows. A value below it is one that nobody sees."""
         reach, rows = f"{letters_of(left)}{top}:{letters_of(right)}{bottom}", range(top, min(bottom, self.last) + 1)
-        under = [(row, place) for row in rows for place in sorted(self.places) if left <= place <= right]
-        for row, place in under:
-            cell = seen(self.below.get(row, {}).get(place))
-            if cell and (row, place) != (top, left):
-                text = f"{shown_of(cell)!r} is hidden by the merged cells {reach}: split them"
-                self.mistake(row, place, text, "covered")
+        under = [(row, place, value) for row in rows for place, value in sorted(self.below.get(row, {}).items())
+                 if left <= place <= right and (row, place) != (top, left) and seen(value)]
+        for row, place, value in under:
+            self.mistake(row, place, f"{shown_of(value)!r} is hidden by the merged cells {reach}: split them", "covered")
         cell = seen(self.sheet.rows.get(top, {}).get(left))
         if cell and left != right:
             self.mistake(top, left, f"{reach} is merged over columns: split it")

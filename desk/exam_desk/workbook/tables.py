@@ -2,7 +2,6 @@
 import functools
 import itertools
 import re
-import sys
 from collections import defaultdict
 from collections.abc import Callable, Iterable, Mapping, Sequence
 from dataclasses import dataclass, field
@@ -104,7 +103,7 @@ class Job:
              column: int | None = None, what: str = "") -> None:
         if len(self.lines) >= MOST_LINES:
             raise Trouble(f"there is more to say of it than {MOST_LINES:,} lines: split it")
-        self.lines.append(Line(sort, text, sheet, [row] if row else [], column, sys.intern(what) or text))
+        self.lines.append(Line(sort, text, sheet, [row] if row else [], column, what or text))
 
     mistake = partialmethod(tell, "mistake")
     change = partialmethod(tell, "change")
@@ -216,7 +215,7 @@ class Headed:
     def tell_columns(self) -> None:
         """What is wrong with a column, or that it is hidden or not read."""
         row, columns = self.header.row, {place: dict[int, Cell]() for place in self.head}
-        for line, place, cell in [(line, *each) for line, cells in self.below.items() for each in cells.items()]:
+        for line, place, cell in ((line, *each) for line, cells in self.below.items() for each in cells.items()):
             if seen(cell):
                 columns.setdefault(place, {})[line] = cell
         for place, cells in sorted(columns.items()):
