@@ -14,8 +14,8 @@ from exam_desk.reading import Person
 from exam_desk.sheets import slips as slip_pages
 from exam_desk.sheets import texts
 from exam_web import proposals
-from exam_web.desk import (Form, Page, Wrong, as_known, at_field, candidate_row, checked, desk, lead, office, styled,
-                           sums, tell_papers, view)
+from exam_web.desk import (Form, Page, Wrong, as_known, at_field, at_one_time, candidate_row, checked, desk, lead,
+                           office, styled, sums, tell_papers, view)
 from exam_web.proposals import APPEALS, BY_DAY, PLANS, TROUBLE, Plan, command, import_step
 from exam_web.session import Session
 from exam_web.wording import link, text
@@ -151,7 +151,7 @@ def clashes() -> str:
 
 @clash_pages.get("/overlaps")
 def overlapping() -> str:
-    found = [(each, effects.by_name(view().reading, each.candidates)) for each in overlaps.found(view().reading)]
+    found = [(each, effects.by_name(view().reading, each.candidates)) for each in at_one_time(view())]
     return render_template("overlaps.html", overlaps=found, most=MOST_SHOWN)
 
 

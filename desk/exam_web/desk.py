@@ -22,7 +22,7 @@ from werkzeug.datastructures import MultiDict
 from werkzeug.utils import secure_filename
 from werkzeug.wrappers import Response
 
-from exam_desk import effects, facts, files, mistakes, on_paper, private, typed, words
+from exam_desk import effects, facts, files, mistakes, on_paper, overlaps, private, typed, words
 from exam_desk.office import Office, Trouble
 from exam_desk.reading import Reading
 from exam_web.wording import refused, text
@@ -101,6 +101,12 @@ def sums(view: View) -> dict[str, Sums]:
 def sittings(view: View, query: str) -> set[tuple[str, str]]:
     """What AT_ONCE, or UNSEATED of `effects`, finds: of each the session and the number."""
     return {(code, number) for code, number in view.rows(query)}
+
+
+@once
+def at_one_time(view: View) -> list[overlaps.Overlap]:
+    """The sessions at one time; the program is asked for all who may be in two."""
+    return overlaps.found(view.reading)
 
 
 @dataclass(eq=False)

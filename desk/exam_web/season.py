@@ -7,11 +7,11 @@ from typing import Any, NamedTuple
 from flask import Blueprint, render_template, request, url_for
 from werkzeug.wrappers import Response
 
-from exam_desk import appeals, changing, logbook, notebook, on_paper, overlaps, turns
+from exam_desk import appeals, changing, logbook, notebook, on_paper, turns
 from exam_desk.effects import UNSEATED
 from exam_desk.telling import people_and_sittings
 from exam_desk.office import Trouble
-from exam_web.desk import AT_ONCE, Sums, desk, lead, office, sittings, sums, view
+from exam_web.desk import AT_ONCE, Sums, at_one_time, desk, lead, office, sittings, sums, view
 from exam_web.proposals import copy_key
 from exam_web.wording import days_until, text
 
@@ -119,7 +119,7 @@ def of_office(found: list[Sums], is_whole: bool) -> Iterator[Attention]:
     if late := [each.code for each in found
                 if -RECENT <= days_until(each.day) < 0 < each.members and each.code not in noted]:
         yield Attention("soon", None, "absent", place_of(late[0], "absent"), {"sessions": late})
-    if is_whole and (pairs := [each for each in overlaps.found(view().reading) if each.early in coming]):
+    if is_whole and (pairs := [each for each in at_one_time(view()) if each.early in coming]):
         day = coming[pairs[0].early]
         yield Attention(level(day, SOON), day, "overlaps", url_for("clashes.overlapping"), {"pairs": pairs})
 
