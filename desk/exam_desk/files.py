@@ -88,7 +88,7 @@ def put(path: str, text: bytes) -> None:
 def records(text: bytes, comma: bytes = b",") -> Iterator[Record]:
     """The records of a file, the header among them. Blank lines are none; an open quote runs to the end. Python's
     reader finds them in texts, so each byte becomes a letter. It knows no byte order mark, and says nothing of an open
-    quote: such a quote holds the blank line that is put behind the file. `csv.Error` at one longer than a whole file."""
+    quote: such a quote holds the blank line that is put behind the file. `csv.Error` at one longer than a file."""
     line, size, closed = 1, 0, True
 
     def lines() -> Iterator[str]:

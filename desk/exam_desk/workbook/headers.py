@@ -173,8 +173,8 @@ def given_of(kind: str, said: object) -> Given:
         elif isinstance(always, str) and name != "sheet" and mistakes.RIGHT[name](always.encode()):
             fixed[name] = always
         else:
-            raise Trouble(f'[{kind}] {name}: write a header such as "Pupil ID", for names and titles also several that differ, or '
-                          f'{{ always = ".." }} with {mistakes.CURES.get(name, "a value")}')
+            raise Trouble(f'[{kind}] {name}: write a header such as "Pupil ID", for names and titles also several '
+                          f'that differ, or {{ always = ".." }} with {mistakes.CURES.get(name, "a value")}')
     [sheet] = headers.pop("sheet", [""])
     return Given(headers, fixed, sheet)
 

@@ -55,9 +55,10 @@ class Table(Headed):
         texts = [row for row, cell in cells if AS_TEXT.fullmatch(bare(cell.text))]
         for row, cell in cells if texts else ():
             if cell.kind == "date" and cell.text[8:10] <= "12":
-                self.mistake(row, place, f"date {shown_of(cell)}: a true date, but {place_name(self.sheet, texts[0], place)}"
-                             " is a text: such a mixture arises where a spreadsheet turns day and month round; type these "
-                             "dates again in the form YYYY-MM-DD", "mixed")
+                self.mistake(row, place, f"date {shown_of(cell)}: a true date, but "
+                             f"{place_name(self.sheet, texts[0], place)} is a text: such a mixture arises where a "
+                             "spreadsheet turns day and month round; type these dates again in the form YYYY-MM-DD",
+                             "mixed")
 
     def filled_cells(self) -> dict[tuple[int, int], Cell]:
         """What the cells that are merged downwards say for the rows below their first."""
@@ -76,7 +77,8 @@ class Table(Headed):
         under = [(row, place, value) for row in rows for place, value in sorted(self.below.get(row, {}).items())
                  if left <= place <= right and (row, place) != (top, left) and seen(value)]
         for row, place, value in under:
-            self.mistake(row, place, f"{shown_of(value)!r} is hidden by the merged cells {reach}: split them", "covered")
+            self.mistake(row, place, f"{shown_of(value)!r} is hidden by the merged cells {reach}: split them",
+                         "covered")
         cell = seen(self.sheet.rows.get(top, {}).get(left))
         if cell and left != right:
             self.mistake(top, left, f"{reach} is merged over columns: split it")
