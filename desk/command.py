@@ -106,7 +106,7 @@ def with_reason(words: list[str]) -> list[str]:
 
 
 def begin() -> None:
-    """Call it first: HUP, INT and TERM let a command clean up, a fault becomes a line, and all goes out as UTF-8."""
+    """Call it first: HUP, INT and TERM let a command clean up, a fault becomes a line, and texts are UTF-8."""
     def leave(number: int, _: FrameType | None) -> None:
         if number == signal.SIGINT and os.isatty(2):
             os.write(2, b"\n")  # behind the ^C
@@ -116,10 +116,9 @@ def begin() -> None:
             signal.signal(number, leave)
     os.umask(0o077)
     for name in ("stdin", "stdout", "stderr"):
-        if getattr(sys, name) is None:  # whoever began the command closed it
-            setattr(sys, name, open(os.devnull, "r" if name == "stdin" else "w", encoding="utf-8"))
-    for stream in (sys.stdout, sys.stderr):
-        stream.reconfigure(encoding="utf-8", errors="backslashreplace")  # type: ignore[attr-defined]
+        stream = getattr(sys, name) or open(os.devnull, "r" if name == "stdin" else "w")  # whoever began it closed it
+        stream.reconfigure(encoding="utf-8", errors="backslashreplace")
+        setattr(sys, name, stream)
     sys.excepthook = tell
 
 
@@ -188,8 +187,7 @@ def ask(question: str) -> None:
 def progress(text: str) -> None:
     """Shows on a terminal how far a command is; an empty text takes the line away."""
     if sys.stderr.isatty():
-        sys.stderr.write(f"{CLEAR}{plain(text)}")
-        sys.stderr.flush()
+        sys.stderr.write(f"{CLEAR}{plain(text)}")  # goes out at once, as all with a carriage return
 
 
 def tell_broken_off() -> None:

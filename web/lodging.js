@@ -15,18 +15,19 @@ const NEAR = 60; // from so many bytes before the end of the reason on, the page
 const DAY = 24 * 60 * 60 * 1000;
 
 export class LodgingForm {
-  #own;
-  #isFilledIn = false; // whether somebody has changed needs or extra time
+  #own; // the answers that `clear` and `show` were given last
+  #isFilledIn; // whether somebody has changed needs or extra time
 
-  /** @param {import("./views.js").Own} own */
-  constructor(own) {
-    this.#own = own;
+  constructor() {
     byId("needs").replaceChildren(...FEATURES.map(featureChoice));
     byId("lodge").addEventListener("change", ({ target }) => this.#changed(target));
     byId("reason").addEventListener("input", () => this.#showRoom());
   }
 
-  /** Forgets all that was entered. */
+  /**
+   * Forgets all that was entered.
+   * @param {import("./views.js").Own} own
+   */
   clear(own) {
     byId("lodge").reset();
     this.show(own);

@@ -23,7 +23,7 @@ const IDLE = 20 * 60 * 1000; // after which a candidate is logged out, since oth
 const WRONG_CODE = 6; // numbers that the office answers
 const TAKEN = 14;
 const STALE = [8, 11, 12, 15, 16, 18, 19]; // the office has it otherwise than the page shows
-const lodging = new LodgingForm(own);
+const lodging = new LodgingForm();
 
 function say(text) {
   byId("status").textContent = text;

@@ -188,10 +188,8 @@ def school(parser: command.Parser) -> None:
     parser.add_argument("--page", metavar="ADDRESS", help="of the candidates' page; it stands on slips")
     given = command.given(parser, "name?")
     office = command.office()
-    if given.page is not None:
-        notebook.set_school_name(office, given.page, notebook.PAGE)
+    notebook.set_school_name(office, given.name, given.page)
     if given.name is not None:
-        notebook.set_school_name(office, given.name)
         command.complain(effects.noted(office))
     address = notebook.school_name(office, notebook.PAGE)
     command.say_lines([notebook.school_name(office) or "no name", *filter(None, [address])])

@@ -76,7 +76,7 @@ def lodge(parser: command.Parser) -> int:
     words[:1] = map(typed.number, words[:1])
     if wrong := typed.wrong_of_lodging(words) or typed.wrong_of_lodging(words := command.with_reason(words)):
         parser.error("; ".join(wrong))
-    return programs.said(*lodging.lodge(command.office(), words))
+    return programs.said(lodging.lodge(command.office(), words))
 
 
 @command.named("""Gives a candidate another name: name NUMBER NAME
@@ -141,7 +141,7 @@ def what_if(parser: command.Parser) -> int:
         return programs.run(command.office(), words)
     plan = own[name].run(command.parser_of(name, words[1:])) if name in own else programs.of_program(values)
     if not isinstance(plan, programs.Change):
-        why = f"`office {name}` changes no seat; " if name else ""
+        why = f"`office {name}` {'alone ' * (name in own)}changes no seat; " if name else ""
         raise Trouble(f"{why}name a command that does: {', '.join(sorted([*own, *programs.CHANGES]))}")
     with programs.rehearsed(plan) as (status, _):
         return status

@@ -15,8 +15,6 @@ if TYPE_CHECKING:
     from argparse import Namespace
     from exam_desk.workbook.tables import Job
 
-LINES = "read.txt"  # in the folder that `read` makes: what was changed
-
 
 def given_source(parser: command.Parser, *words: str) -> Namespace:
     """The words of a command that reads a workbook, or a folder of import files."""
@@ -37,19 +35,19 @@ def given_source(parser: command.Parser, *words: str) -> Namespace:
 def read_source(office: Office, given: Namespace) -> Job:
     """Reads a workbook, or a folder of import files, as the options say; prints what was changed and what is wrong.
     Raises `Trouble` where it cannot be read."""
-    from exam_desk.checking import office_knows
+    from exam_desk.mistakes import office_knows
     from exam_desk.workbook import headers, opening, reading, tables, values
     asked, way = headers.read_columns(given.columns) if given.columns else ({}, values.Way())
     way = way._replace(dates=given.dates or way.dates)
-    job = tables.Job(office_knows(office), way, asked, given.sheet, given.leave, given.together, given.hidden)
+    job = tables.Job(office_knows(office), way, asked, given.sheet, given.leave, given.together, given.hidden,
+                     progress=command.progress)
     command.progress("opening")
     if os.path.isdir(given.source):
-        reading.mend_folder(given.source, job, given.encoding, command.progress)
+        reading.mend_folder(given.source, job, given.encoding)
     else:
-        reading.read_book(opening.open_book(given.source, given.encoding), job, command.progress)
+        reading.read_book(opening.open_book(given.source, given.encoding), job)
     if getattr(given, "codes", False):
-        from exam_desk import coding
-        coding.add_codes(job)
+        reading.add_codes(job)
     command.progress("")
     command.say_lines(line.whole() for line in (job.lines if given.all else tables.together(job.lines)))
     return job
@@ -70,19 +68,19 @@ be new. It is for its owner alone, and has all these lines, too, in read.txt: lo
 Colours of cells and comments are not read, and the results of formulas are those of the last save.
 """)
 def read(parser: command.Parser) -> int:
-    from exam_desk import lists
-    from exam_desk.workbook.reading import refuse_there, write_folder
+    from exam_desk import dumping, lists
+    from exam_desk.workbook.reading import LINES, write_folder
     given = given_source(parser, "new?")
     path = os.path.abspath(given.source)
     default = f"{path}-mended" if os.path.isdir(path) else os.path.splitext(os.path.basename(path))[0]
     target = os.path.abspath(given.new or default)
-    refuse_there(target)
+    dumping.refuse_there(target)
     job = read_source(command.office(), given)
     counts = ", ".join(lists.count(job.count(sort), sort) for sort in ("mistake", "change", "note"))
     if job.count("mistake"):
         print(f"{counts}: nothing is written")
         return 1
-    print(*write_folder(target, job, LINES), sep="\n")
+    print(*write_folder(target, job), sep="\n")
     print(f"{counts}: look through them in {plain(os.path.join(target, LINES))}")
     return 0
 
@@ -116,9 +114,9 @@ be in two sessions at one time. The status is 1 if `office import` would refuse 
 what a spreadsheet broke.
 """)
 def check_files(parser: command.Parser) -> bool:
-    from exam_desk import checking, lists
+    from exam_desk import lists, mistakes
     gc.disable()  # a file can have a million rows, and no row refers to itself
-    lines, counts = checking.check_folder(command.office(), command.given(parser, "folder").folder)
+    lines, counts = mistakes.check_folder(command.office(), command.given(parser, "folder").folder)
     command.say_lines(lines)
     if not counts["files"]:
         raise Trouble("none of the seven files is there")
@@ -195,9 +193,9 @@ Then it imports in order, whole or not at all.
 """, changes=True)
 def take(parser: command.Parser) -> command.Plan:
     from commands import programs
-    from exam_desk import coding
+    from exam_desk.workbook.reading import steps_of
     given = given_source(parser, "--yes: do not ask", "--codes: make access codes for candidates who have none")
-    steps = coding.steps_of(read_source(command.existing_office(), given))
+    steps = steps_of(read_source(command.existing_office(), given))
     return programs.Asked(steps=steps, title=f"take {os.path.basename(os.path.abspath(given.source))}",
                           most=None if given.all else programs.MOST_NAMED, is_agreed=given.yes)
 
@@ -210,6 +208,6 @@ Its cells have the format text, so that no spreadsheet changes what is typed; ea
 column takes. The row that begins with `e.g.` is an example, which `office read` leaves out.
 """)
 def template(parser: command.Parser) -> None:
-    from exam_desk.workbook.reading import put_workbook
-    put_workbook(path := command.given(parser, "file").file)
+    from exam_desk import dumping
+    dumping.put_workbook(path := command.given(parser, "file").file)
     command.say(f"{plain(path)}: fill it, then office read {plain(path)}\n")

@@ -57,14 +57,14 @@ heading stands on each page again, and a line that is too long goes on in the ne
 sits has no sheet, nor has a paper that nobody sits.
 """)
 def print_session(parser: command.Parser) -> None:
-    from exam_desk.sheets import printing
+    from exam_desk.sheets import texts
     parser.add_argument("--lines", type=int, default=60, help="of a page, 60 if not given")
     parser.add_argument("--columns", type=int, default=76, help="of a line, 76 if not given")
     given = command.given(parser, "session")
     if given.lines < 10 or given.columns < 40:
         raise Trouble("a page has 10 lines of 40 letters at least")
     with command.reading() as reading:
-        command.say(printing.text(reading, given.session, given.lines, given.columns, command.progress))
+        command.say(texts.session_sheets(reading, given.session, given.lines, given.columns, command.progress))
 
 
 @command.named("""\
@@ -231,13 +231,13 @@ reads. Needs are those of the arrangement in force and what the paper requires. 
 that open a hall, or have it open for longer or with more desks.
 """)
 def why(parser: command.Parser) -> bool:
-    from exam_desk import reasons, remedies
+    from exam_desk import reasons
     given = command.given(parser, "session", "number?")
     with command.reading() as reading:
         number = reading.person(typed.candidate_number(given.number)).number if given.number else None
         found, printed = reasons.compared(reading, given.session)
         faults = list(found.faults(printed))
-        helpful = [] if number else remedies.lines(reading.rows, found, printed)
+        helpful = [] if number else reasons.what_could_help(found, printed)
     command.say_private(found.text(number))
     command.say_lines(helpful)
     return warned(faults)

@@ -49,11 +49,11 @@ class Change:
 
     def said(self, rehearsal: Rehearsal) -> int:
         """Prints what came of the steps in a rehearsal; the status."""
-        return said(*rehearsal.answers[0])
+        return said(rehearsal.answers[0])
 
     def __call__(self) -> int:
         carried = changing.carry_out(command.office(), self.steps, self.made_for or None, title=self.title)
-        status = said(*carried.answers[0])
+        status = said(carried.answers[0])
         if self.steps[0].words[0] != MIGRATE:
             command.tell_consequences(carried.copy)
         return status
@@ -187,7 +187,7 @@ def run(office: Office, words: list[str]) -> int:
     if asks_help:
         found = running.help_text(office, words[0])
         command.say(found + HELP.get(words[0], "").format(words[0]))
-        return 0 if found else said(Step(tuple(words)), Ran(2, "", "line not understood\n"))
+        return 0 if found else said(Answered(Step(tuple(words)), Ran(2, "", "line not understood\n"), office))
     if words[0] == "serve" and len(words) > 1:
         beside.refuse_stranger(office.path)
         if turns.keep_state(office) is not None:
@@ -196,7 +196,7 @@ def run(office: Office, words: list[str]) -> int:
             os.execv(office.program, office.line(*words))
     if change := of_program(words):
         return change()
-    return said(Step(tuple(words)), dispatch(office, words))
+    return said(Answered(Step(tuple(words)), dispatch(office, words), office))
 
 
 def as_typed(words: list[str]) -> tuple[list[str], bool]:
@@ -214,7 +214,7 @@ def dispatch(office: Office, words: list[str]) -> Ran:
     if words[0] == "check" and os.path.isfile(office.path):
         return check(office)
     if words[0] not in running.SHEETS:
-        return running.run_over(office, office.path, *words, output=None)
+        return running.run_over(office, office.path, *words)
     with contextlib.ExitStack() as stack:
         path = office.path
         with contextlib.suppress(OSError):  # such as beside a file that is not there: the program says what is wrong
@@ -237,7 +237,7 @@ def check(office: Office) -> Ran:
         if shown := [os.path.basename(each) for each in (place, beside.folder(place)) if beside.others_can_read(each)]:
             command.warn(f"NOTE other users can read what lies here: `chmod -R go= {' '.join(shown)}`")
         return ran
-    return running.run_over(office, office.path, "check", output=None)
+    return running.run_over(office, office.path, "check")
 
 
 def of_program(words: list[str]) -> Change | None:
@@ -292,13 +292,14 @@ def put(text: str) -> bool:
     return True
 
 
-def said(step: Step, ran: Ran, office: Office | None = None) -> int:
+def said(answered: Answered) -> int:
     """Prints what the program said of a step, and what a refusal of it means; the status."""
+    step, ran, _ = answered
     if not put(ran.answer):
         ran = ran._replace(status=1, complaint=ran.complaint + "write fault\n")
     lines = list[str]()
     if ran.status in (0, 1):
-        lines = below(Answered(step, ran, office or command.office()))
+        lines = below(answered._replace(ran=ran))
     elif ran.status == 2:
         lines = usage(*step.words)
     elif ending := ran.ending():

@@ -32,8 +32,11 @@ other commands. Ctrl-C ends it. It needs python3-flask and python3-waitress.
 def desk(parser: command.Parser) -> None:
     if sys.executable != PYTHON:
         os.execv(PYTHON, [PYTHON, command.OFFICE, "desk", *sys.argv[1:]])
+    from exam_desk import keeping
     parser.add_argument("--port", type=int, metavar="NUMBER", help=f"{FIRST} or the next that is free")
     given = command.given(parser, "--link: print another link of the desk that runs")
+    if not 0 <= (given.port or 0) <= keeping.MOST_PORT:
+        parser.error(f"{given.port} is no port: a number from 1 to {keeping.MOST_PORT}")
     office = command.office()
     try:
         from exam_web import application
@@ -72,7 +75,7 @@ def keep(parser: command.Parser) -> bool:
     if given.days < 1:
         parser.error("--days is 1 at least")
     if not (place := keeping.place_of(given.place)):
-        parser.error(f"{given.place} is neither a port, 1 to 65535, nor a folder")
+        parser.error(f"{given.place} is neither a port, 1 to {keeping.MOST_PORT}, nor a folder")
     # one whose file is gone may be served still
     office = command.office() if turns.keep_state(command.office()) else command.existing_office()
     beside.refuse_stranger(office.path)

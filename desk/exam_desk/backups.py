@@ -42,8 +42,7 @@ def fill(office: Office, folder: str) -> None:
     pathlib.Path(path + "-wal").touch()  # where there is none nothing is missing, and the backup says so
     os.mkdir(beside.folder(path), 0o700)
     notebook.copy_into(office, beside.folder(path))
-    with (contextlib.suppress(FileNotFoundError),
-          open(beside.open_file(office.path, logbook.NAME, flags=os.O_RDONLY), "rb") as log):
+    with contextlib.suppress(FileNotFoundError), open(beside.open_file(office.path, logbook.NAME), "rb") as log:
         files.put(beside.folder(path, logbook.NAME), log.read())
 
 

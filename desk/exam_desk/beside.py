@@ -20,7 +20,7 @@ AS_FOLDER = os.O_RDONLY | os.O_DIRECTORY
 SAFELY = os.O_NOFOLLOW | os.O_NONBLOCK  # a pipe in the place of a file keeps nobody waiting
 FULL = {errno.ENOSPC, errno.EDQUOT}  # a disk, or what a user may have of it
 NO_FILE = "is no file, but a folder, a pipe or a device"
-LAST_BYTES = 1 << 16  # of a file that grows, which are looked at
+LAST_BYTES = 1 << 20  # of a file that grows, which are looked at: more than a list writes into the log in one turn
 DAYS = "days"  # the folder with the copies of days, which can go
 LINKS = {errno.ELOOP: "is a link, which is not followed", errno.ENOTDIR: "is no folder, or a link to one"}
 
@@ -87,7 +87,7 @@ def open_folder(office: str, *names: str) -> Iterator[int]:
         os.close(found)
 
 
-def open_file(office: str, *names: str, flags: int) -> int:
+def open_file(office: str, *names: str, flags: int = os.O_RDONLY) -> int:
     """A descriptor of a file in the folder; `Strange` as for a folder. New ones, folders too, are for their owner."""
     refuse_stranger(office)
     if flags & os.O_CREAT:
@@ -100,7 +100,7 @@ def open_file(office: str, *names: str, flags: int) -> int:
 
 def text_of(office: str, name: str, most: int = LAST_BYTES) -> str:
     """What a file in the folder holds, as far as the last bytes go; nothing where it cannot be read, such as a link."""
-    with contextlib.suppress(OSError, Strange), open(open_file(office, name, flags=os.O_RDONLY), "rb") as file:
+    with contextlib.suppress(OSError, Strange), open(open_file(office, name), "rb") as file:
         file.seek(max(os.fstat(file.fileno()).st_size - most, 0))
         return file.read().decode("utf-8", "replace")
     return ""

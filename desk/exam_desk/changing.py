@@ -22,8 +22,7 @@ from dataclasses import dataclass, replace
 from io import FileIO
 from typing import NamedTuple
 
-from exam_desk import (beside, copies, files, logbook, notebook, private, refusals, running, snapshot, titles,
-                       turns)
+from exam_desk import beside, copies, files, logbook, notebook, private, refusals, running, snapshot, titles, turns
 from exam_desk.office import Office, Stale, Trouble
 from exam_desk.words import Said, few
 
@@ -146,8 +145,7 @@ def carry_out(office: Office, steps: Sequence[Step], made_from: str | None = Non
     """
     office.today()  # a day that is none is said before anything begins
     if not os.path.isfile(office.path):  # the program says so
-        ran = running.run_over(office, office.path, *steps[0].words, data=steps[0].data)
-        return Carried([Answered(steps[0], ran, office)], None, None)
+        return Carried([Answered(steps[0], running.run_over(office, office.path, *steps[0].words), office)], None, None)
     shown = title or ", ".join(step.title() for step in steps)
     with unchanged(office), turn(office, shown, made_from) as lock, copied(office, shown) as copy:
         if len(steps) == 1:

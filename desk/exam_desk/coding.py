@@ -1,18 +1,11 @@
-"""Access codes at random for candidates who have none, or whose code is lost; other names for candidates; and the
-imports of what was read from a workbook, or from a folder of import files."""
-from __future__ import annotations
-
+"""Access codes at random for candidates who have none, or whose code is lost; and other names for candidates."""
 import os
 import secrets
 from collections.abc import Mapping
-from typing import TYPE_CHECKING
 
-from exam_desk import facts, files, lists, mistakes, snapshot
+from exam_desk import facts, files, snapshot
 from exam_desk.changing import Step
 from exam_desk.office import Office, NoCandidate, Trouble
-
-if TYPE_CHECKING:
-    from exam_desk.workbook.tables import Job
 
 LETTERS, DIGITS, LENGTH = "BCDFGHJKMNPQRSTVWXYZ", "23456789", 10
 
@@ -22,7 +15,7 @@ def read(text: bytes, path: str) -> list[list[str]]:
     found, forms = [], files.FORMS["candidates"]
     for row in files.below_header(text, path, files.HEADERS["candidates"]):
         coded = [*row.fields[:2], *(code or b"AAAAAAAA" for code in row.fields[2:])]
-        if not row.closed or len(coded) != len(forms) or not all(right(value) for right, value in zip(forms, coded)):
+        if len(coded) != len(forms) or not all(right(value) for right, value in zip(forms, coded)):
             raise Trouble(f"line {row.line} is wrong; `office check-files` says how", path)
         found.append([value.decode() for value in row.fields])
     return found
@@ -77,28 +70,3 @@ def other_rows(office: Office, numbers: list[str], name: str | None = None) -> t
                for number in dict.fromkeys(numbers)]
     title = f"{'name' if name is not None else 'code'} of {', '.join(numbers)}"
     return Step(("import", "candidates", title), files.file_of("candidates", changed)), state
-
-
-def add_codes(job: Job) -> None:
-    """Gives each candidate who was read without a code a new one, where no line is a mistake."""
-    job.lines = [line for line in job.lines if line.what != mistakes.NO_CODE]
-    if not job.count("mistake"):
-        records = job.records.get("candidates", [])
-        known = {number.decode(): code.decode() for number, code in job.known.codes.items() if code}
-        rows, made = filled([record.fields for record in records], known)
-        job.records["candidates"] = [record._replace(fields=row) for record, row in zip(records, rows)]
-        if made:
-            job.change(f"{lists.count(made, 'access code')} made")
-
-
-def steps_of(job: Job) -> list[Step]:
-    """The imports of what was read, in order. `Trouble` at a mistake, as where nothing was read, or an empty code."""
-    from exam_desk.workbook.reading import file_parts  # here, since a code or a name needs no workbook
-    if count := job.count("mistake"):
-        raise Trouble(f"{lists.count(count, 'mistake')}: nothing is changed")
-    if empty := sum(not record.fields[2] for record in job.records.get("candidates", [])):
-        raise Trouble(f"{lists.count(empty, 'candidate')} without an access code: nothing is changed; give --codes too "
-                      "to make them")
-    return [Step(("import", kind, name), text)
-            for kind in files.HEADERS if (rows := [record.fields for record in job.records.get(kind, [])])
-            for name, text, _ in file_parts(kind, rows)]  # several where they are too many for one

@@ -52,7 +52,8 @@ class Effects:
     def __init__(self, before: Reading, after: Reading) -> None:
         self.before, self.after = before, after
         self.touched = telling.touched(before, after)
-        self.kinds = telling.by_kind(telling.of_touched(before, after, self.touched) if has_seats(before) else [])
+        self.had_seats = before.rows.execute("SELECT 1 FROM seat LIMIT 1").fetchone() is not None
+        self.kinds = telling.by_kind(telling.of_touched(before, after, self.touched) if self.had_seats else [])
         self.changes = [*dict.fromkeys(each for part in self.kinds.values() for each in part)]
         self.clashes = [*new_clashes(before, after, self.touched)]
         self.overlaps = [(each, by_name(after, each.candidates)) for each in overlaps.new(before, after, self.touched)]
@@ -68,7 +69,7 @@ class Effects:
         people = {kind: [Met("" if kind == "name" else each.session, each.person(),
                              each.lost_needs() if kind == "needs" else each.what()) for each in part]
                   for kind, part in {**self.kinds, "name": [*renamed.values()]}.items()}
-        return in_order(people | {
+        people |= {
             OVER: [Met(code, f"of {day} for {lists.count(people, 'candidate')}",
                        "is it the right session, or an old file?")
                    for code, (day, people) in self.over.items()],
@@ -82,7 +83,8 @@ class Effects:
             HALLS: [Met(each.early, f"and {each.late} in {hall}", "both number their desks from 1")
                     for each, _ in self.overlaps for hall in each.halls],
             PRINTED: on_old_paper(self.out_of_date),
-            CODES: [Met("", person.shown(), "needs a new slip") for person in self.codes]})
+            CODES: [Met("", person.shown(), "needs a new slip") for person in self.codes]}
+        return {kind: people[kind] for kind in KINDS if people.get(kind)}
 
     def said(self, shown: list[str], listing: list[str], most: int | None) -> list[str]:
         """The lines on those whom it meets, between those on second sittings and on sessions and rows; what lists them;
@@ -93,7 +95,7 @@ class Effects:
         return [*map(str, left_behind(self.before, self.after)), *shown, *self.without_a_desk(most),
                 *([rows] if values else []), *listing, *self.notes()]
 
-    def without_a_desk(self, most: int | None = MOST_NAMED) -> list[str]:
+    def without_a_desk(self, most: int | None) -> list[str]:
         """A line on the sessions in which more or fewer have no desk than before, those with the most first."""
         was, now = unseated(self.before), unseated(self.after)
         others = {code: now[code] for code in self.touched if len(now[code]) != len(was[code])}
@@ -118,7 +120,7 @@ def over(effects: Effects) -> dict[str, tuple[str, int]]:
     before, after = effects.before, effects.after
     met = {(code, each.number) for each in effects.changes if each.kind() != "name" for code in each.sessions()}
     counts = Counter(code for code, _ in met | {(code, person.number) for code, person, _ in effects.clashes})
-    if not has_seats(before):
+    if not effects.had_seats:
         counts = Counter({code: people for code, (people, _) in figures(after).items() if code in effects.touched})
     days = sorted((day, code) for reading in (before, after) for code, day, _ in facts.sessions(reading.rows))
     first = {code: day for day, code in reversed(days)}
@@ -141,20 +143,18 @@ def out_of_date(before: Reading, after: Reading, touched: Sequence[str]) -> dict
     met = {number for reading in (before, after) for code in touched if printed
            for number in facts.entered(reading.rows, code)}
     return {code: papers for code in dict.fromkeys([*touched, *printed])
-            if code in printed and (papers := papers_of(before, after, code, None if code in touched else met))}
+            if code in printed and (papers := papers_of(before, after, code, met))}
 
 
-def papers_of(before: Reading, after: Reading, session: str, among: Collection[str] | None) -> on_paper.Papers:
+def papers_of(before: Reading, after: Reading, session: str, among: Collection[str]) -> on_paper.Papers:
     """The papers that are noted as printed and show those who are otherwise than before and not as on paper, of some
-    candidates or of all, or what lines share and is another."""
-    paper = on_paper.noted(after.office, session)
-    if not (paper.lines or paper.shared):
-        return {}
+    candidates, or what lines share and is another."""
+    lines, common = on_paper.noted(after.office, session)
     then, now = (on_paper.lines_of(reading, session, among) for reading in (before, after))
-    moves = (move._replace(printed=paper.lines.get(move.number)) for move in on_paper.moves(then, now))
+    moves = [move._replace(printed=lines.get(move.number)) for move in on_paper.moves(then, now)]
     was, shared = (on_paper.shared(reading, session) for reading in (before, after))
-    others = (other for other in on_paper.others(paper.shared, shared) if was.get(other[0]) != other[2])
-    return on_paper.out_of_date(after.office, moves, others, paper.lines)
+    others = (other for other in on_paper.others(common, shared) if was.get(other[0]) != other[2])
+    return on_paper.out_of_date(after.office, moves, others, lines)
 
 
 def new_clashes(before: Reading, after: Reading, sessions: Iterable[str]) -> Iterator[tuple[str, Person, list[str]]]:
@@ -190,14 +190,10 @@ def unseated(reading: Reading) -> dict[str, list[str]]:
     return found
 
 
-def has_seats(reading: Reading) -> bool:
-    return reading.rows.execute("SELECT 1 FROM seat LIMIT 1").fetchone() is not None
-
-
 def between(before: Reading, after: Reading, at_most: int | None) -> list[str]:
     """What the steps of a rehearsal would do, of those who are named at most so many in each way."""
     effects = Effects(before, after)
-    nobody = ["nobody sits otherwise"] if has_seats(before) else []
+    nobody = ["nobody sits otherwise"] if effects.had_seats else []
     return effects.said(lines(effects.met, at_most) or nobody, [], at_most)
 
 
@@ -211,8 +207,7 @@ def done(office: Office, copy: str, progress: Progress) -> list[str]:
             if (place := place_of(office, copy)) != 1:
                 raise Trouble("the office has changed again meanwhile")
             effects = Effects(before, after)
-            shown = headlines(effects.met)
-            return effects.said(shown, listing(effects.met, place_of(office, copy)), MOST_NAMED)
+            return effects.said(headlines(effects.met), listing(effects.met, place_of(office, copy)), MOST_NAMED)
     except (Trouble, OSError, sqlite3.Error, MemoryError) as fault:
         reason = plain(str(fault)) or "there is no memory"
         return [f"the change is done, but nobody can say what it did to candidates: {reason}; try `office changes "
@@ -231,12 +226,9 @@ def on_old_paper(papers: Mapping[str, on_paper.Papers]) -> list[Met]:
 
 def noted(office: Office) -> list[str]:
     """As `done`, of the printed papers that `on_paper.otherwise` gives."""
-    met = in_order({PRINTED: on_old_paper(on_paper.otherwise(office))})
+    found = on_old_paper(on_paper.otherwise(office))
+    met = {PRINTED: found} if found else {}
     return headlines(met) + listing(met, 1)
-
-
-def in_order(people: Groups) -> Groups:
-    return {kind: people[kind] for kind in KINDS if people.get(kind)}
 
 
 def who(kind: str, met: list[Met]) -> list[str]:

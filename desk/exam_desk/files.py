@@ -49,6 +49,7 @@ QUERIES = {  # the rows of an office, where masks and clocks are numbers
     "arrangements": "SELECT printf('%07d', number), needs AS mask, extra FROM arrangement ORDER BY number",
     "entries": "SELECT printf('%07d', number), paper FROM entry WHERE live = 1 ORDER BY number, paper",
 }
+WITHDRAWN = "SELECT printf('%07d', number), paper FROM entry WHERE live = 0 ORDER BY number, paper"
 IN_WORDS: dict[str, Callable[[int], str]] = {"mask": words.feature_text, "clock": words.clock}
 FORMULA = re.compile(r"(^|[;\t\r\n])(\s*[=+\-@＝＋－＠])")  # some spreadsheets take the wide signs too
 
@@ -168,7 +169,11 @@ def written(rows: Iterable[Iterable[object]]) -> str:
 
 def file_of(kind: str, rows: Iterable[Iterable[object]]) -> bytes:
     """A file of a kind with these rows."""
-    return BOM + written([HEADERS[kind], *rows]).encode("utf-8", "surrogatepass")
+    return BOM + encoded(written([HEADERS[kind], *rows]))
+
+
+def encoded(text: str) -> bytes:
+    return text.encode("utf-8", "surrogatepass")
 
 
 Form = Callable[[bytes], object]  # true where a value has the right form
@@ -216,13 +221,13 @@ def is_features(text: bytes) -> bool:
     return text == b"-" or named == [name for name in FEATURES if name in named]
 
 
-is_code, is_hall = form(rb"[A-Z0-9-]{1,12}"), form(rb"[A-Z0-9]{1,8}")
+is_code = form(rb"[A-Z0-9-]{1,12}")
 CLOCK = rb"([01][0-9]|2[0-3]):[0-5][0-9]"
 RIGHT: dict[str, Form] = {  # the form of a column, in whatever kind it stands
     "number": is_number, "name": is_name, "code": form(rb"[A-Z0-9]{8,16}"), "session": is_code, "date": is_date,
     "start": form(CLOCK), "paper": is_code, "title": is_name, "minutes": whole(1, 600), "requires": is_features,
-    "hall": is_hall, "features": is_features, "desks": whole(1, 2000), "until": form(CLOCK + rb"|24:00"),
-    "reserved": form(rb"yes|no"), "needs": is_features, "extra": whole(0, 100)}
+    "hall": form(rb"[A-Z0-9]{1,8}"), "features": is_features, "desks": whole(1, 2000),
+    "until": form(CLOCK + rb"|24:00"), "reserved": form(rb"yes|no"), "needs": is_features, "extra": whole(0, 100)}
 FORMS = {kind: [RIGHT[name] for name in header] for kind, header in HEADERS.items()}
 
 

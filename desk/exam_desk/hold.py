@@ -11,8 +11,8 @@ import time
 
 from exam_desk import asking
 
-MOST_CLIENTS, CROWD = 4000, 100
-FILES = 2 * MOST_CLIENTS  # that the process may have open, if the system lets it
+CROWD = 100  # clients
+FILES = 8000  # that the process may have open, if the system lets it; half as many clients are taken
 END = b"\r\n\r\n"  # of a head
 MOST_HEAD, MOST_BODY = 8192, 4096  # bytes; what is longer is handed on as far as it goes, and `serve` refuses it
 LIMIT = MOST_HEAD - len(END)  # of a reader that looks for the end
@@ -28,7 +28,7 @@ class Hold:
     """Hands requests on to a server, one after the other, while there is one."""
 
     def __init__(self) -> None:
-        """Lets the process have FILES open, or as many as the system allows, and takes half as many clients."""
+        """Lets the process have FILES open, or as many as the system allows."""
         self.server: asking.Server | None = None
         self.opened = asyncio.Event()
         self.over = asyncio.Event()  # the server is to end: it has to begin anew, or `keep` has another reason
@@ -39,7 +39,7 @@ class Hold:
         most = resource.getrlimit(resource.RLIMIT_NOFILE)[1]  # a number: Linux knows no infinite one
         files = min(FILES, most)
         resource.setrlimit(resource.RLIMIT_NOFILE, (files, most))
-        self.most_clients = min(MOST_CLIENTS, files // 2)
+        self.most_clients = files // 2
 
     def open(self, server: asking.Server) -> None:
         self.server = server

@@ -30,6 +30,7 @@ from exam_desk.words import plain
 
 JOURNAL = "keep.log"  # beside the office
 SOCKET = "keep.socket"  # in the folder that `keep` is given
+MOST_PORT = 65535
 BACKLOG = 4096  # a socket without room refuses at once; the system may allow less
 MOST_LOG = 1 << 20  # bytes
 MOST_LINE = 1 << 12  # bytes of what `serve` complains of
@@ -203,8 +204,9 @@ def make_room(path: str) -> None:
 
 def place_of(given: str) -> str:
     """A port, or the path of the socket in a folder; nothing where it is neither."""
-    if given.isascii() and given.isdigit() and 1 <= int(given) <= 65535:
-        return str(int(given))
+    port = given.lstrip("0")
+    if port.isascii() and port.isdigit() and len(port) <= 5 and int(port) <= MOST_PORT:
+        return port
     return os.path.join(os.path.abspath(given), SOCKET) if os.path.isdir(given) else ""
 
 

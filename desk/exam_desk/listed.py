@@ -6,7 +6,7 @@ import time
 from collections.abc import Callable, Iterator
 from io import FileIO
 
-from exam_desk import changing, checking, copies, facts, files, lists, logbook, mistakes, refusals, snapshot, turns
+from exam_desk import changing, copies, facts, files, lists, logbook, mistakes, refusals, snapshot, turns
 from exam_desk.changing import Answered, Step
 from exam_desk.office import Office, NoCandidate, Trouble
 from exam_desk.typed import candidate_number
@@ -24,12 +24,11 @@ Tell = Callable[[int, Answered], None]  # hears what became of the row that begi
 def rows_of(office: Office, command: str, path: str) -> tuple[Rows, list[str]]:
     """The rows of a file with the header of entries; a line for each mistake in it. Raises `Trouble` without a row."""
     text = files.read(path, office.warn)
-    file = mistakes.File("entries", checking.office_knows(office))
-    given = file.rows(text)
-    rows = [*map(file.mended, given or ())]
-    wrong, _ = file.looked_through(given and iter(rows))
+    file = mistakes.File("entries", mistakes.office_knows(office))
+    rows = [*map(file.mended, file.rows(text))]
+    wrong, _ = file.looked_through(rows)
     if wrong:
-        return {}, list(checking.lines_on(os.path.basename(path), wrong, ""))
+        return {}, list(mistakes.lines_on(os.path.basename(path), wrong, ""))
     if not rows:
         raise Trouble("there is no row; nothing is changed", path)
     return {record.line: Step((command, *(field.decode() for field in record.fields))) for record in rows}, []

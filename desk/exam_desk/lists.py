@@ -7,6 +7,7 @@ from typing import TypeVar
 from exam_desk import facts
 from exam_desk.reading import Member, Person, Reading, Sitting
 from exam_desk.office import Trouble
+from exam_desk.words import plain
 
 LETTERS = str.maketrans({"ø": "o", "æ": "ae", "œ": "oe", "ł": "l", "đ": "d", "ð": "d", "þ": "th", "ı": "i",
                          "‘": "'", "’": "'", "ʼ": "'", "‐": "-", "–": "-"})
@@ -19,6 +20,11 @@ def fold(text: str) -> str:
     parts = unicodedata.normalize("NFKD", unicodedata.normalize("NFKD", text).casefold())
     return " ".join("".join(part for part in parts if not unicodedata.combining(part)
                             and unicodedata.category(part) != "Cf").translate(LETTERS).split())
+
+
+def alike(name: str) -> str:
+    """What the names of namesakes have in common: how they are shown, folded."""
+    return fold(plain(name))
 
 
 def letters(text: str) -> str:

@@ -1,15 +1,20 @@
-"""The mistakes of import files: what the program refuses, in words, and what only a human eye can judge."""
+"""The mistakes of import files: what the program refuses, in words, and what only a human eye can judge; and all that
+`office check-files` says of a folder of them, before any import."""
+import os
 import re
 import sqlite3
 from collections import Counter
-from collections.abc import Callable, Iterator, Sequence
+from collections.abc import Callable, Iterable, Iterator, Mapping, Sequence
 from typing import NamedTuple
 
-from exam_desk import files, lists, snapshot, words
+from exam_desk import changing, effects, files, lists, snapshot, words
+from exam_desk.changing import Step
+from exam_desk.office import Office
+from exam_desk.reading import Reading
 
 MOST_COUNTED = 100_000  # mistakes of a file; what is behind the last of them is not looked at
+MOST_SHOWN = 5  # mistakes or notes on one column of a file
 MOST_TO_MEND = 200  # bytes of a value for which a better one is sought
-WITHDRAWN = "SELECT printf('%07d', number), paper FROM entry WHERE live = 0"
 GRANTED = f"SELECT printf('%07d', number) FROM appeal WHERE {snapshot.GRANTED_NEEDS}"
 NAMES, CODES = {"name", "title"}, {"session", "paper", "hall", "code"}  # columns
 CODE = "1 to 12 of A-Z, 0-9 and -"
@@ -26,10 +31,10 @@ CURES = {
 }
 NO_CODE = "code ''"  # the mistakes on empty codes, which are counted and not shown
 EMPTY_ROW = "an empty row of the spreadsheet: delete it"
-RIGHT = files.RIGHT
 LOST_ZEROS = re.compile(rb"([0-9]{1,7})(\.(?!000$)0+)?").fullmatch  # 1.000 is a thousand, too
 WRONG_LETTERS = re.compile("[ÂÃ][^!-~À-ÿ]|[ÄÅ][^ -~À-ÿ]|â€|\ufffd").search  # as UTF-8 looks in a Western encoding
-NOT_TYPED = re.compile("^ | $|[\u00a0\u2007\u202f“”„‟‘’‚‛]").search  # but made by a word processor
+# But made by a word processor. The joiners \u200c and \u200d belong to names in Persian, Hindi and other languages.
+NOT_TYPED = re.compile("^ | $|[\u00a0\u00ad\u2007\u200b\u202f\u2060\ufeff“”„‟‘’‚‛]").search
 LIKE_A_NUMBER = re.compile(rb"[0-9]+E[0-9]+|[1-9][0-9]?0{4,}").fullmatch
 
 
@@ -93,8 +98,8 @@ class Known:
         if connection:
             for kind in files.HEADERS:
                 self.take(kind, [tuple(map(str.encode, row)) for row in files.rows_of(connection, kind)])
-            self.withdrawn.update((key.encode(), str(paper).encode()) for key, paper in connection.execute(WITHDRAWN))
-            self.granted.update(key.encode() for key, in connection.execute(GRANTED))
+            self.withdrawn = {(key.encode(), str(paper).encode()) for key, paper in connection.execute(files.WITHDRAWN)}
+            self.granted = {key.encode() for key, in connection.execute(GRANTED)}
 
     def take(self, kind: str, rows: Sequence[tuple[bytes, ...]]) -> None:
         """Adds the rows of a file."""
@@ -173,21 +178,22 @@ class File:
         self.kind, self.known, self.header = kind, known, files.HEADERS[kind]
         self.place = place  # how the row of a line is called
         self.wrong, self.notes = Found(most), Found(most)
-        self.columns = [(name, RIGHT[name], files.REFERENCES[kind].get(name)) for name in self.header]
+        self.columns = [(name, files.RIGHT[name], files.REFERENCES[kind].get(name)) for name in self.header]
         self.first: dict[tuple[bytes, ...], files.Record] = {}  # the first record of each key
 
-    def looked_through(self, rows: Iterator[files.Record] | None) -> tuple[Found, Found]:
-        """The mistakes of its rows and the notes on them; what they bring is known afterwards."""
-        if rows is not None and self.look_at(rows):
+    def looked_through(self, rows: Iterable[files.Record]) -> tuple[Found, Found]:
+        """The mistakes of its rows and the notes on them; what they bring is known afterwards, if they are all."""
+        self.look_at(rows)
+        if self.wrong.counts["file"]:
+            self.known.keys[self.kind] = None
+        else:
             self.note_unknown()
             self.known.take(self.kind, [record.fields for record in self.first.values()])
             self.note_together()
-        elif self.kind in self.known.keys:
-            self.known.keys[self.kind] = None
         return self.wrong, self.notes
 
-    def rows(self, text: bytes) -> Iterator[files.Record] | None:
-        """The records after the header; None where that is wrong."""
+    def rows(self, text: bytes) -> Iterator[files.Record]:
+        """The records after the header; none where that is wrong."""
         if len(text) > files.MOST_BYTES:
             self.wrong.add(1, "file", f"more than {files.MOST_BYTES} bytes: split it")
         rows = files.records(text)
@@ -196,10 +202,10 @@ class File:
         line = files.shown(text.removeprefix(files.BOM).lstrip()[:300].partition(b"\n")[0].rstrip())
         self.wrong.add(1, "file", f"the first line must be {','.join(self.header)}, and is {line}; `office mend` reads "
                        "files with other headers, commas or letters")
-        return None
+        return iter(())
 
-    def look_at(self, rows: Iterator[files.Record]) -> bool:
-        """Looks at all rows; false where it gives up, since too many are wrong."""
+    def look_at(self, rows: Iterable[files.Record]) -> None:
+        """Looks at all rows, unless too many are wrong."""
         for record in rows:
             if fault := fault_of(record, len(self.header)):
                 self.wrong.add(record.line, "row", fault)
@@ -207,8 +213,7 @@ class File:
                 self.look_at_values(record)
             if self.wrong.count >= MOST_COUNTED:
                 self.wrong.add(record.line, "file", f"{MOST_COUNTED:,} mistakes; what is behind them is not looked at")
-                return False
-        return True
+                break
 
     def look_at_values(self, record: files.Record) -> None:
         """Looks at each value alone, and whether what it refers to is known."""
@@ -269,3 +274,58 @@ def fault_of(record: files.Record, wanted: int) -> str:
     why = "a quote is not closed" if not record.closed else \
         "values are missing" if count < wanted else "put a value with a comma in double quotes"
     return f"{count} in place of {wanted} fields; {why}"
+
+
+# -- as lines
+
+def lines_on(name: str, found: Found, word: str) -> Iterator[str]:
+    """The lines on a file (rows in no file have no name): of one column the first alone, and one on all empty codes."""
+    for mistake in found:
+        yield f"{f'{name} line {mistake.line}: ' if name else ''}{word}{mistake.what}: {mistake.text}"
+    for column, count in found.counts.items():
+        if column == NO_CODE:
+            yield f"{name}: {no_codes(count)}; without them an import refuses the file"
+        elif count > found.most:
+            yield f"{name}: .. and {lists.count(count - found.most, 'more line')} on {column}"
+
+
+def office_knows(office: Office) -> Known:
+    """What the office has, if there is one."""
+    if not os.path.exists(office.path):
+        return Known()
+    with snapshot.rows(office) as connection:
+        return Known(connection)
+
+
+def check_folder(office: Office, folder: str) -> tuple[list[str], Counter[str]]:
+    """Looks through the import files of a folder one after the other: each knows what the office has, and what those
+    before it bring. Gives the lines, and how many files, mistakes, empty codes and notes there are. Raises `Trouble` at
+    what is no file."""
+    names, known, lines, counts = sorted(os.listdir(folder)), office_knows(office), list[str](), Counter[str]()
+    texts = {kind: files.read(os.path.join(folder, f"{kind}.csv")) for kind in files.HEADERS if f"{kind}.csv" in names}
+    for kind, text in texts.items():
+        wrong, notes = looked_through(kind, text, known, MOST_SHOWN)
+        lines += [*lines_on(f"{kind}.csv", wrong, ""), *lines_on(f"{kind}.csv", notes, "NOTE: ")]
+        counts.update(files=1, mistakes=wrong.count, codes=wrong.counts[NO_CODE], notes=notes.count)
+    for name in names:
+        if name.lower().endswith(files.TABLES) and name.removesuffix(".csv") not in texts:
+            why = "none of the seven names, so it is not looked at" if name.lower().endswith(".csv") else \
+                "a workbook: `office read` makes the files of it"
+            lines.append(f"NOTE: {name} is {why}")
+    if os.path.exists(office.path) and not counts["mistakes"] + counts["codes"]:
+        refused, met = would_do(office, texts)
+        counts.update(mistakes=len(refused), notes=len(met))
+        lines += [*refused, *(f"NOTE: once imported: {line}" for line in met)]
+    return lines, counts
+
+
+def would_do(office: Office, texts: Mapping[str, bytes]) -> tuple[list[str], list[str]]:
+    """What the program refuses of imports into a private copy of the office, and what they would do to candidates."""
+    steps = [Step(("import", kind, f"{kind}.csv"), text) for kind, text in texts.items()]
+    with changing.rehearse(office, steps) as rehearsal:
+        if refused := changing.refused_of(rehearsal.answers):
+            means = "; ".join(refused.explained()) or refused.first_line()
+            return [f"{refused.step.words[-1]}: {means}"], []
+        with Reading(office, rehearsal.before) as before, Reading(office, rehearsal.after) as after:
+            met = effects.Effects(before, after)
+            return [], met.said(effects.headlines(met.met), [], MOST_SHOWN)

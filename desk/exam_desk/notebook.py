@@ -57,8 +57,7 @@ def is_rows(part: object) -> bool:
 
 
 def is_line(part: object) -> bool:
-    return (isinstance(part, list) and [*map(type, part[:2])] == [str, int]
-            and all(map(is_text, [part[0], *part[2:]])))
+    return isinstance(part, list) and [*map(type, part[:2])] == [str, int] and all(map(is_text, [part[0], *part[2:]]))
 
 
 # What a file holds, by the beginning of its name: in words, {} being a session; its type; whether a part is right.
@@ -73,12 +72,15 @@ def school_name(office: Office, what: str = SCHOOL) -> str:
     return str(read(office, what) or "")
 
 
-def set_school_name(office: Office, name: str, what: str = SCHOOL) -> None:
-    """Raises `Trouble` where the name, or the address, has another form than a title."""
-    if name and not files.is_name(name.encode("utf-8", "surrogateescape")):
+def set_school_name(office: Office, name: str | None, page: str | None = None) -> None:
+    """Keeps the name, the address of the page, or both. Raises `Trouble`, and keeps nothing, where one of them has
+    another form than a title."""
+    given = {what: text for what, text in ((PAGE, page), (SCHOOL, name)) if text is not None}
+    if not all(files.is_name(text.encode("utf-8", "surrogateescape")) for text in given.values() if text):
         raise Trouble("a name or an address has 1 to 80 bytes and no control characters; '' takes it away")
-    keep(office, what, lambda _: name)
-    logbook.write_done(office, [SCHOOL], 0, name or f"no {'name' if what == SCHOOL else what}")
+    for what, text in given.items():
+        keep(office, what, lambda _: text)
+        logbook.write_done(office, [SCHOOL], 0, text or f"no {'name' if what == SCHOOL else what}")
 
 
 def notes(office: Office) -> dict[str, str]:
@@ -198,7 +200,7 @@ def read(office: Office, name: str) -> Any:
     """What a file holds; None where there is none. Raises `Trouble` where it, or a part of it, has another form."""
     _, kind, is_right = KINDS[name.partition(".")[0]]
     try:
-        file = beside.open_file(office.path, PLACE, f"{name}.json", flags=os.O_RDONLY)
+        file = beside.open_file(office.path, PLACE, f"{name}.json")
     except FileNotFoundError:
         return None
     with open(file, "rb") as opened, contextlib.suppress(ValueError, RecursionError):
@@ -276,6 +278,6 @@ def contents(office: Office, *place: str) -> dict[str, bytes]:
     with contextlib.suppress(FileNotFoundError), beside.open_folder(office.path, *place) as folder:
         for name in os.listdir(folder):
             if not name.endswith(NEW):
-                with open(beside.open_file(office.path, *place, name, flags=os.O_RDONLY), "rb") as file:
+                with open(beside.open_file(office.path, *place, name), "rb") as file:
                     found[name] = file.read()
     return found

@@ -10,7 +10,6 @@ from exam_desk.office import Office
 from exam_desk.reading import Reading
 from exam_desk.sheets import PAPERS
 
-NOTED = "noted"  # stands beside the lines in files of earlier versions
 SCHOOL, OF = "school", ": "  # where others have a code; between a code and what is shown of it
 OF_SCHOOL = f"{SCHOOL}{OF}name"
 EVERYWHERE = {"hall", "date", "start", "hall title"}  # what all papers show
@@ -47,17 +46,16 @@ class Move(NamedTuple):
             return [what for what, old, new in zip(Line._fields, self.printed, self.now) if old != new]
         return ["hall" if self.now else "left"]
 
+    def names(self) -> set[str]:
+        """Those that the session has once more than on paper, or once less."""
+        printed, now = ({line.name} if line else set[str]() for line in (self.printed, self.now))
+        return printed ^ now
+
     def others(self) -> list[Other]:
         """What is another than the desk. Of a note it is said that there is one."""
         both = zip(Line._fields[2:], (self.printed or ())[2:], (self.now or ())[2:])
         return [(what, old and "one", new and ("another" if old else "one")) if what == "note" else (what, old, new)
                 for what, old, new in both if old != new]
-
-
-class Printed(NamedTuple):
-    """What was printed for a session."""
-    lines: dict[str, Line]  # by number
-    shared: dict[str, str]  # as `shared` has it
 
 
 class Compared(NamedTuple):
@@ -74,12 +72,12 @@ class Compared(NamedTuple):
         return sorted({*itertools.chain(self.empty, *self.again.values())})
 
 
-def noted(office: Office, session: str) -> Printed:
-    """What was printed for a session; no line where nobody said that it was."""
-    found = notebook.read(office, f"printed.{session}") or {}
-    found.pop(NOTED, None)
-    common = {what: parts[0] for what, parts in found.items() if OF in what}
-    return Printed({number: line_of(parts) for number, parts in found.items() if number not in common}, common)
+def noted(office: Office, session: str) -> tuple[dict[str, Line], dict[str, str]]:
+    """What was printed for a session: lines by number, and what they share, as `shared` has it. None of either where
+    nobody said that it was."""
+    found = notebook.read(office, f"printed.{session}") or {}  # in those of earlier versions "noted" stands beside all
+    return ({number: line_of(parts) for number, parts in found.items() if number.isdigit()},
+            {what: parts[0] for what, parts in found.items() if OF in what})
 
 
 def line_of(parts: list[Any]) -> Line:
@@ -124,11 +122,20 @@ def shared(reading: Reading, session: str) -> dict[str, str]:
     return found
 
 
-def out_of_date(office: Office, moves: Iterable[Move], others: Iterable[Other], lines: Mapping[str, Line]) -> Papers:
+def is_of(what: str, halls: Collection[str], papers: Collection[str]) -> bool:
+    """Whether what lines share is of the school, of one of these halls or papers. A hall may have the code of a paper.
+    """
+    code, _, kind = what.partition(OF)
+    return code in (papers if kind == "paper title" else [SCHOOL, *halls])
+
+
+def out_of_date(office: Office, moves: Collection[Move], others: Iterable[Other], lines: Mapping[str, Line]) -> Papers:
     """The papers that show what is another, each with its halls; charts of those alone whose rows of desks are kept."""
     met = {(kind, line.hall) for move in moves for kind in move.kinds() for line in (move.printed, move.now) if line}
+    names = {lists.alike(name) for move in moves for name in move.names() if name}
+    met |= {("namesakes", line.hall) for line in lines.values() if names and lists.alike(line.name) in names}
     met |= {(what if what == OF_SCHOOL else what.partition(OF)[2], line.hall) for what, *_ in others
-            for line in lines.values() if what.partition(OF)[0] in (SCHOOL, line.hall, line.paper)}
+            for line in lines.values() if is_of(what, [line.hall], [line.paper])}
     drawn, found = notebook.rows_of_halls(office), Papers()
     for name, paper in PAPERS.items():
         shows = EVERYWHERE.union(paper.shows.split(", "))
@@ -171,8 +178,8 @@ def note(office: Office, reading: Reading, session: str) -> tuple[int, str]:
     """Notes, in the log too, that the papers of a session are printed as it is; how many desks, and an answer."""
     facts.session_row(reading.rows, session)
     lines = lines_of(reading, session)
-    codes = {SCHOOL}.union(*((line.hall, line.paper) for line in lines.values()))
-    common = {what: [value, 0] for what, value in shared(reading, session).items() if what.partition(OF)[0] in codes}
+    halls, papers = {line.hall for line in lines.values()}, {line.paper for line in lines.values()}
+    common = {what: [value, 0] for what, value in shared(reading, session).items() if is_of(what, halls, papers)}
     notebook.keep(office, f"printed.{session}", lambda _: common | lines)
     desks = sum(line.hall != "" for line in lines.values())
     said = f"{lists.count(desks, 'desk')} noted, of state {reading.mark}: the foot of each paper must say that"

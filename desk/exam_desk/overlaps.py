@@ -33,11 +33,6 @@ class Pair(NamedTuple):
     gap: int  # minutes from one start to the other
 
 
-# Who sits in the first of two sessions, and may sit yet when the second begins: the two; the hall, where candidates of
-# the second sit there, too, None where this one has both sessions; the number.
-Doubtful = tuple[Pair, str | None, str]
-
-
 class Overlap(NamedTuple):
     """Two sessions with candidates or halls that are in both at one time."""
     early: str
@@ -49,7 +44,7 @@ class Overlap(NamedTuple):
 def found(reading: Reading, asked: Collection[str] = (), number: str | None = None) -> list[Overlap]:
     """The overlaps of these sessions with any others, otherwise all, by day and start; of one candidate those of the
     sessions in which they sit, as far as they or their halls are in both."""
-    own, doubtful = reading.all_of(number) if number else {}, list[Doubtful]()
+    own, doubtful = reading.all_of(number) if number else {}, list[tuple[Pair, str | None, str]]()
     if not number:
         reading.rows.index_entries()
     for pair in pairs(reading, asked or own) if own or not number else []:
@@ -61,8 +56,10 @@ def found(reading: Reading, asked: Collection[str] = (), number: str | None = No
     return certain(reading, doubtful)
 
 
-def certain(reading: Reading, doubtful: Collection[Doubtful]) -> list[Overlap]:
-    """What is left when the program has said who sits until when."""
+def certain(reading: Reading, doubtful: Collection[tuple[Pair, str | None, str]]) -> list[Overlap]:
+    """What is left of those who may, by the rows, sit in the first of two sessions yet when the second begins, once the
+    program has said until when they sit. With each is the hall where candidates of the second sit, too; None where this
+    one has both sessions."""
     reading.ask(map(reading.person, sorted({number for *_, number in doubtful})))
     overlaps: dict[Pair, Overlap] = {}
     for pair, hall, number in doubtful:

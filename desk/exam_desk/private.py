@@ -6,7 +6,6 @@ next command removes the folders whose lock is free.
 """
 import contextlib
 import errno
-import fcntl
 import os
 import pathlib
 import shutil
@@ -14,9 +13,9 @@ import stat
 import tempfile
 import time
 from collections.abc import Callable, Iterator
-from typing import BinaryIO
+from io import FileIO
 
-from exam_desk import beside
+from exam_desk import beside, turns
 
 PLACE, PREFIX, LOCK, NAME = "tmp", "office-copy-", "lock", "office.db"
 ENDINGS = ("", "-wal")  # of the names of the two files
@@ -78,14 +77,13 @@ def private_folder(place: str) -> Iterator[str]:
         lock.close()
 
 
-def claim(folder: str) -> BinaryIO | None:
+def claim(folder: str) -> FileIO | None:
     """The lock of a private folder, held until it is closed; None where another holds it, or the folder is gone."""
-    with contextlib.ExitStack() as stack, contextlib.suppress(FileNotFoundError, BlockingIOError):
-        lock = stack.enter_context(open(os.path.join(folder, LOCK), "ab", opener=no_link))
-        fcntl.flock(lock.fileno(), fcntl.LOCK_EX | fcntl.LOCK_NB)
-        if os.fstat(lock.fileno()).st_nlink:  # else it was removed before it was held
-            stack.pop_all()
+    with contextlib.suppress(FileNotFoundError):
+        lock = open(os.path.join(folder, LOCK), "ab", buffering=0, opener=no_link)
+        if turns.try_lock(lock) and os.fstat(lock.fileno()).st_nlink:  # else it was removed before it was held
             return lock
+        lock.close()
     return None
 
 
@@ -106,14 +104,12 @@ def copy_files(source: str, target: str) -> None:
     followed. A program that has the office open only adds to the second file. One that opens it changes the first file,
     or begins the second anew: then the copy is made again."""
     for _ in range(TRIES):
-        before = moment(source)
-        if before is not None:
+        if before := moment(source):
             copy_still(source, target)
             if before == moment(source):
                 return
         for ending in ENDINGS:
-            with contextlib.suppress(FileNotFoundError):
-                os.remove(target + ending)
+            pathlib.Path(target + ending).unlink(missing_ok=True)
         time.sleep(PAUSE)
     raise OSError(errno.EBUSY, "changes all the time", source)
 
@@ -128,7 +124,7 @@ def copy_still(source: str, target: str) -> None:
     for ending in ENDINGS:
         with (contextlib.suppress(FileNotFoundError), open(source + ending, "rb", opener=no_link) as file,
               open(target + ending, "xb", opener=no_link) as copy):
-            shutil.copyfileobj(file, copy, 1 << 20)
+            shutil.copyfileobj(file, copy)
 
 
 def moment(path: str) -> tuple[int, int, int, bytes | None] | None:

@@ -157,9 +157,7 @@ class Reading(contextlib.AbstractContextManager["Reading"]):
     def begun(self) -> Serve:
         """The `serve`, over a second copy. Call it with the lock of those who ask."""
         if self.serve is None:
-            folder = os.path.join(os.path.dirname(self.copy), "served")
-            os.mkdir(folder, 0o700)
-            path = os.path.join(folder, os.path.basename(self.copy))  # while it is open nobody can print a sheet of it
+            path = f"{self.copy}-served"  # while it is open nobody can print a sheet of it
             with self.printing:
                 private.copy_still(self.copy, path)
             self.serve = self.stack.enter_context(contextlib.closing(Serve(self.office, path, self.refuse_rows)))
@@ -186,7 +184,7 @@ class Reading(contextlib.AbstractContextManager["Reading"]):
     def refuse_rows(self, complaint: str) -> None:
         """Raises `BadRows` where the program refuses the rows; it names the table, or else `check` does."""
         if complaint == "refused 24":
-            snapshot.refuse_bad(self.rows, self.path, snapshot.LARGE)
+            snapshot.refuse_bad(self.rows, snapshot.LARGE)
             with self.printing:
                 said = running.run_over(self.office, self.copy, "check").answer
             if said.startswith("bad "):
@@ -234,7 +232,7 @@ def clashes(answered: Objects) -> dict[str, list[str]]:
 
 def objects(body: bytes, what: str) -> Objects:
     """Those of an answer. Raises `Trouble` where one has other members."""
-    with contextlib.suppress(ValueError, KeyError, TypeError, RecursionError):
+    with contextlib.suppress(ValueError, KeyError, TypeError, AttributeError, RecursionError):
         found = json.loads(body)[what]
         if all(each.keys() == MEMBERS[what] for each in found):
             return list(found)

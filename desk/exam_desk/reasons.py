@@ -1,23 +1,37 @@
-"""Which open hall suits whom, and so why a member of a session has no desk, hall by hall.
+"""Why a member of a session has no desk, hall by hall, and what could help.
 
 The program prints what is short, and not why a hall does not suit. So its rule stands here again, and each answer is
-compared with the printed shortage: `Reasons.faults`.
+compared with the printed shortage: `Reasons.faults`. What could help is a guess: a hall that is open in another way, or
+that is not open. Only the program says what an opening comes to: `what-if`, or a button, has it rehearse each.
 """
-from collections import defaultdict
+from collections import Counter, defaultdict
 from collections.abc import Iterator
+from statistics import mode
 from typing import NamedTuple
 
 from exam_desk import facts, snapshot
-from exam_desk.facts import Opening, session_row
+from exam_desk.facts import Opening
 from exam_desk.lists import by_desk, count
+from exam_desk.overlaps import of_day
 from exam_desk.reading import Member, Reading
 from exam_desk.office import Trouble
 from exam_desk.words import FEATURES, clock, features, few, plain
 
 MOST_NAMED, MOST_HALLS = 3, 5  # occupants of a full hall, halls of a reason
 MOST_LINES = 60  # that go hall by hall; in place of more, equal reasons are put together
+MOST_REMEDIES = 6
+MOST_PAIRS = 100_000  # of a hall of the office and a candidate on the sheet: these take half a second
+MIDNIGHT = 24 * 60
 CLOSES, TOO_EARLY = "closes ", "closes too early"
 GRANTED_HALLS = f"SELECT number, target FROM appeal WHERE session = ? AND kind = 1 AND state = {snapshot.GRANTED}"
+
+
+class Remedy(NamedTuple):
+    """An opening that could seat so many at most, and how the hall is open now."""
+    seats: int
+    opening: Opening
+    now: Opening | None
+    is_more: bool  # whether it has more desks than the hall has in any session
 
 
 class Shortage(NamedTuple):
@@ -37,7 +51,7 @@ def read_sheet(text: str) -> Shortage:
 def compared(reading: Reading, session: str) -> tuple["Reasons", Shortage]:
     """The reasons and the printed shortage of a session, to be compared. Raises `Trouble` where there is no such
     session, or the program refuses the sheet."""
-    session_row(reading.rows, session)
+    facts.session_row(reading.rows, session)
     reading.prepare()
     printed = read_sheet(reading.sheet("shortage", session))
     return Reasons(reading, session), printed
@@ -48,7 +62,7 @@ class Reasons:
 
     def __init__(self, reading: Reading, session: str) -> None:
         """Raises `Trouble` where there is no such session."""
-        self.session = session
+        self.session, self.rows = session, reading.rows
         self.members = reading.members(session)
         self.openings = facts.openings(reading.rows, session)
         self.required = {code: features(mask) for code, mask in reading.rows.execute(
@@ -68,7 +82,7 @@ class Reasons:
     def obstacles(self, member: Member, opening: Opening) -> list[str]:
         """Why a hall does not suit a member; nothing where it does. Worked out once for all who are alike."""
         barred, sits = (member.number, opening.hall) in self.barred, member.sitting
-        key = (opening, sits.needs, sits.extra > 0, sits.paper, sits.finish, barred)
+        key = (opening, sits.needs, sits.extra, sits.paper, sits.finish, barred)
         if key not in self.found:
             there = features(opening.features)
             found = self.found[key] = [f"no {name}" for name in self.needs(member) if name not in there]
@@ -146,3 +160,60 @@ class Reasons:
             yield f"hall {hall[0]} with {hall[1]} desks {said}"
         if sheet.unseated != len(short):
             yield f"unseated: the sheet counts {sheet.unseated}, and there are {len(short)}"
+
+
+def best(why: Reasons, sheet: Shortage) -> list[Remedy]:
+    """The first of them, of each hall one for as many seats: more desks than a hall ever had last; of the others those
+    for most, and halls that are open first. None where the halls and the candidates on the sheet are too many."""
+    [halls] = why.rows.execute("SELECT count(*) FROM hall").fetchone()
+    if halls * len(sheet.candidates) > MOST_PAIRS:
+        return []
+    found: dict[tuple[int, str], Remedy] = {}
+    for each in sorted(remedies(why, sheet), key=lambda each: (each.is_more, -each.seats, not each.now)):
+        found.setdefault((each.seats, each.opening.hall), each)
+    return [*found.values()][:MOST_REMEDIES]
+
+
+def remedies(why: Reasons, sheet: Shortage) -> Iterator[Remedy]:
+    """With the desks that are free, with as many as the hall has in any session, and, of an open one, as are short, but
+    for those whose needs no hall has: for those on the sheet, since whoever goes there makes room for another. A hall
+    is open no longer than they need; a closed one until most open halls are, where that is later."""
+    listed, opened = set(sheet.candidates), {each.hall: each for each in why.openings}
+    people = [member for member in why.members if member.number in listed]
+    most = dict(why.rows.execute("SELECT hall, max(desks) FROM opening GROUP BY hall"))
+    helped = sheet.unseated - lacking(why).total()
+    usual = mode(sorted((each.until for each in why.openings), reverse=True) or [0])  # of several the latest
+    for code, title, mask in why.rows.execute("SELECT code, title, features FROM hall ORDER BY code"):
+        now, taken = opened.get(code), len(why.seated.get(code, ()))
+        base = now or Opening(code, title, mask, 0, usual, False)
+        for reserved in dict.fromkeys([base.reserved, False]):
+            widest = base._replace(until=MIDNIGHT, reserved=reserved)
+            ends = sorted(of_day(member.sitting.finish) for member in people
+                          if member.sitting.hall != code and not why.obstacles(member, widest))[:helped]
+            room = [base.desks - taken, most[code] - taken, len(ends)] if now else [most.get(code, len(ends))]
+            for seats in {len(ends[:free]) for free in room} - {0}:
+                then = base._replace(until=max(base.until, ends[seats - 1]), reserved=reserved,
+                                     desks=max(base.desks, taken + seats))
+                yield Remedy(seats, then, now, now is not None and then.desks > most[code])
+
+
+def what_could_help(why: Reasons, sheet: Shortage) -> list[str]:
+    """What no hall has, and the remedies as commands to try; nothing where everybody has a desk."""
+    found = [f"  office what-if open-hall {why.session} {then.hall} {then.desks} {clock(then.until)}"
+             f"{' --reserved' * then.reserved}  # could seat up to {seats} of {sheet.unseated}; now {shown(now)}"
+             f"{'; more desks than it ever had' * is_more}"
+             for seats, then, now, is_more in best(why, sheet)]
+    return [*(f"no hall of the office has all of {', '.join(needs)}: needed by {count(people, 'candidate')}"
+              for needs, people in lacking(why).items()),
+            *(["what could help; only the program knows what it comes to, so try it:"] if found else []), *found]
+
+
+def shown(now: Opening | None) -> str:
+    return f"{count(now.desks, 'desk')} until {clock(now.until)}{', reserved' * now.reserved}" if now else "not open"
+
+
+def lacking(why: Reasons) -> Counter[tuple[str, ...]]:
+    """The needs that no hall of the office has together, each with how many without a desk have them."""
+    halls = [set(features(mask)) for mask, in why.rows.execute("SELECT features FROM hall")]
+    needs = [tuple(why.needs(member)) for member in why.unseated()]
+    return Counter(each for each in needs if each and not any(there.issuperset(each) for there in halls))

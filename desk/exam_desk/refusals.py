@@ -72,12 +72,13 @@ def explained(office: Office, words: Sequence[str], complaint: str, data: bytes 
     sentence = SENTENCES.get(number or 0) or OTHER.get(answer)
     lines = [sentence] if sentence else []
     if number in MAYBE_DONE:
-        lines += [f"{each} has it" for each in filter(None, [holder(office)]) if number == 23]
+        if number == 23 and (has_it := holder(office)):
+            lines.append(f"{has_it} has it")
         lines += [WHOLE_OR_NOT] if words[0] != "serve" else []
     elif number == 24 and not os.path.exists(office.path):
         lines = [str(NoOffice(office.path))]
     elif answer == "file fault" and words[0] == "import":
-        lines.append(f"it was looked for as {plain(os.path.abspath(words[-1]))}")
+        lines.append(f"it was looked for as {os.path.abspath(words[-1])}")
     elif number in OF_A_FILE or not answer:
         lines += mistakes_of(office, words, data, not answer)
     return [*map(plain, lines)]
@@ -95,11 +96,11 @@ def mistakes_of(office: Office, words: Sequence[str], data: bytes | None, is_don
     kind, path = imported(words)
     if data is None or is_done and kind not in IDLE:
         return []
-    from exam_desk import checking, mistakes  # here, since few commands need them
+    from exam_desk import mistakes  # here, since few commands need it
     with contextlib.suppress(Trouble):
-        wrong, notes = mistakes.looked_through(kind, data, checking.office_knows(office), MOST_LINES)
+        wrong, notes = mistakes.looked_through(kind, data, mistakes.office_knows(office), MOST_LINES)
         name = "" if path == kind else os.path.basename(path)
-        return [*checking.lines_on(name, *((notes, "NOTE: ") if is_done else (wrong, "")))]
+        return [*mistakes.lines_on(name, *((notes, "NOTE: ") if is_done else (wrong, "")))]
     return []
 
 

@@ -31,32 +31,28 @@ class Ran(NamedTuple):
         return f"signal {self.status - 128} ended the program" if self.status > 128 else ""
 
 
-class NotStarted(Trouble):
-    """The program cannot be started, or given its rows, so it has changed nothing."""
-
-
 @contextlib.contextmanager
 def starting(office: Office) -> Iterator[None]:
-    """Raises `NotStarted` where the system does not start the program."""
+    """Raises `Trouble` where the system does not start the program, which has changed nothing then."""
     try:
         yield
     except OSError as fault:
         said = f"the program cannot be started: {office.program}: {fault.strerror}"
         if shutil.which(office.program) is None:
             said = f"there is no program {office.program}; EXAMOFFICE names another, and ./try-it --prove builds one"
-        raise NotStarted(said) from fault
+        raise Trouble(said) from fault
 
 
 def run_over(office: Office, path: str, *words: str, data: bytes | None = None, lock: FileIO | None = None,
              output: int | None = subprocess.PIPE) -> Ran:
     """Runs a command over a file. Bytes stand in the place of the file that its last word names: they are whole before
     it begins, whoever is killed then, and on no disk. The program holds the lock too. Its answer goes to an output
-    that is given, to ours for None, as it is. Raises `NotStarted`."""
+    that is given, to ours for None, as it is. Raises `Trouble` where it cannot be started, or given its rows."""
     with starting(office), contextlib.ExitStack() as stack:
         given = None
         if data is not None:
             if not os.path.exists("/proc/self/fd"):  # to which INPUT leads
-                raise NotStarted("/proc is not mounted, so the program can be given no rows")
+                raise Trouble("/proc is not mounted, so the program can be given no rows")
             given = stack.enter_context(open(os.memfd_create("import"), "w+b"))
             given.write(data)
             given.flush()
@@ -71,10 +67,9 @@ def run_over(office: Office, path: str, *words: str, data: bytes | None = None, 
 
 def help_text(office: Office, *words: str) -> str:
     """The help of the program, or of one of its commands, in the words that `office` takes: it gives the file and the
-    date by itself. Raises `NotStarted`."""
+    date by itself. Raises `Trouble` where it cannot be started."""
     with starting(office):
-        done = subprocess.run([office.program, *words, "--help"], stdout=subprocess.PIPE, stderr=subprocess.DEVNULL,
-                              check=False)
+        done = subprocess.run([office.program, *words, "--help"], stdout=subprocess.PIPE, stderr=subprocess.DEVNULL)
     text = OPTIONS.sub("", USE.sub("office", done.stdout.decode("utf-8", "replace")))
     return NAMED.sub(r"`office \1`", text)
 
@@ -87,7 +82,7 @@ def takes(text: str) -> list[str]:
 def begun(office: Office, path: str, port: int) -> subprocess.Popen[bytes]:
     """`serve` over a file at a port, as a child that is killed with this process. It saves what it answers before it
     answers, so nothing is lost. The thread that begins it must live as long: the system asks for that thread. Raises
-    `NotStarted`."""
+    `Trouble` where it cannot be started."""
     import ctypes  # here, since most commands begin sooner without it
     parent, library = os.getpid(), ctypes.CDLL(None)
 

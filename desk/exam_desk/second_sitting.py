@@ -122,10 +122,16 @@ def free_code(rows: Rows, table: str, first: str) -> str:
 
 
 def first_papers(rows: Rows, second: sqlite3.Row) -> list[sqlite3.Row]:
-    """The papers of which a paper may have been made for second sittings."""
-    stem = second["code"].rpartition("-")[0]  # `~` is behind all letters of codes
-    found = rows.execute(f"{PAPERS} WHERE paper.code BETWEEN ?1 AND ?1 || '~'", [stem]) if stem else []
-    return [row for row in found if is_made_of(rows, second, row)]
+    """The papers of which a paper may have been made for second sittings: each of its candidates has an entry for that
+    one, and one or more have it withdrawn. Where nobody has, as when a second sitting is taken back, the title says it.
+    """
+    found, stem = [], second["code"].rpartition("-")[0]  # `~` is behind all letters of codes
+    for first in rows.execute(f"{PAPERS} WHERE paper.code BETWEEN ?1 AND ?1 || '~'", [stem]) if stem else []:
+        if all(is_numbered(second[name], first[name]) for name in ("code", "session")):
+            has_strangers, has_withdrawn = rows.execute(UNLIKE, [first["code"], second["code"]]).fetchone()
+            if not has_strangers and (has_withdrawn or second["title"] == first["title"]):
+                found.append(first)
+    return found
 
 
 def pairs(rows: Rows) -> list[tuple[sqlite3.Row, sqlite3.Row]]:
@@ -156,15 +162,6 @@ def told(made: Mapping[str, sqlite3.Row], starts: Mapping[str, int], sits: Sitti
             yield f"stay with them: {first['code']} at {other.start} in {where}"
         elif mine and mine["session"] == other.session:
             yield f"watched since {other.finish}, comes from {other.hall or 'no hall'}"
-
-
-def is_made_of(rows: Rows, second: sqlite3.Row, first: sqlite3.Row) -> bool:
-    """Whether a paper was made of another: each of its candidates has an entry for that one, and one or more have it
-    withdrawn. Where nobody has, as when a second sitting is taken back, the title says it."""
-    if not all(is_numbered(second[name], first[name]) for name in ("code", "session")):
-        return False
-    has_strangers, has_withdrawn = rows.execute(UNLIKE, [first["code"], second["code"]]).fetchone()
-    return not has_strangers and bool(has_withdrawn or second["title"] == first["title"])
 
 
 def own_code(rows: Rows, code: str) -> str:

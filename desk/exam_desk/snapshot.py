@@ -13,8 +13,8 @@ from exam_desk import private
 from exam_desk.office import Office, BadRows, NoOffice, Trouble
 
 VERSION = 3
-INDEXES = ("PRAGMA query_only = OFF; CREATE INDEX IF NOT EXISTS paper_by_session ON paper (session); "
-           "CREATE INDEX IF NOT EXISTS entry_by_paper ON entry (paper); PRAGMA query_only = ON")
+INDEXES = ("CREATE INDEX IF NOT EXISTS paper_by_session ON paper (session); "
+           "CREATE INDEX IF NOT EXISTS entry_by_paper ON entry (paper)")
 GRANTED = 2  # the state of an appeal
 GRANTED_NEEDS = f"kind = 3 AND state = {GRANTED}"  # the appeals by which an arrangement is granted
 MOST_AT_ONCE = 1000  # rows
@@ -90,11 +90,10 @@ def rows_of(copy: str, path: str) -> Rows:
             file.backup(memory)
         memory.path = path
         memory.text_factory = lambda text: text.decode("utf-8", "replace")
-        refuse_bad(memory, path, WRONG)
+        refuse_bad(memory, WRONG)
     except sqlite3.Error as fault:
         raise Trouble(f"{path} holds no office: {fault}") from fault
     memory.row_factory = sqlite3.Row
-    memory.execute("PRAGMA query_only = ON")
     return memory
 
 
@@ -109,12 +108,12 @@ def check_tables(file: sqlite3.Connection, path: str) -> None:
         raise Trouble(f"{path} holds no office that this program reads; `office check` says more")
 
 
-def refuse_bad(rows: Rows, path: str, wrong: dict[str, dict[str, str]]) -> None:
+def refuse_bad(rows: Rows, wrong: dict[str, dict[str, str]]) -> None:
     """Raises `BadRows` where a table has wrong rows."""
     for table, columns in wrong.items():
         conditions = " OR ".join(condition.format(column) for column, condition in columns.items())
         if rows.execute(f"SELECT 1 FROM {table} WHERE {conditions} LIMIT 1").fetchone():
-            raise BadRows(path, table)
+            raise BadRows(rows.path, table)
 
 
 def name_of(rows: Rows) -> str:

@@ -51,7 +51,6 @@ SESSIONS = {  # by table: which sessions a row that is another can change, as a 
     "candidate": OF_NUMBERS, "arrangement": OF_NUMBERS, "appeal": OF_NUMBERS, "standing": OF_NUMBERS,
     "seat": f"SELECT session FROM different WHERE {TO_COME}",  # the same rows can be seated in more than one way
 }
-MOMENTS = ("before", "after")
 CHANGED = ["sessions", "papers", "halls", "openings", "arrangements"]  # of rows whose other values are said
 Titles = tuple[dict[str, str], dict[str, str]]  # of papers and of halls, by code
 
@@ -138,7 +137,7 @@ def touched(before: Reading, after: Reading, since: str | None = None) -> list[s
         both.execute("PRAGMA temp_store = MEMORY")  # reasons of appeals are in no file of others
         both.execute("ATTACH ? AS before", [before.copy])
         both.execute("ATTACH ? AS after", [after.copy])
-        for table, (moment, other) in itertools.product(SESSIONS, (MOMENTS, MOMENTS[::-1])):
+        for table, (moment, other) in itertools.product(SESSIONS, itertools.permutations(("before", "after"))):
             both.execute("DROP TABLE IF EXISTS temp.different")
             both.execute(f"CREATE TEMP TABLE different AS SELECT * FROM {moment}.{table} EXCEPT "
                          f"SELECT * FROM {other}.{table}")
@@ -248,10 +247,10 @@ def csv_text(changes: Iterable[Change], titles: Titles) -> str:
 def csv_row(change: Change, titles: Titles) -> list[str]:
     last = change.new or change.old
     codes = [last.paper, last.hall or ""] if last else ["", ""]
-    shown = (of.get(code, "") for of, code in zip(titles, codes))
-    return ["yes" if change.is_to_tell() else "no", change.session, change.number, files.guarded(change.name),
-            *columns(change.old), *columns(change.new), *map(files.guarded, [*shown, change.old_name]),
-            "; ".join(change.also())]
+    return [*map(files.guarded, [
+        "yes" if change.is_to_tell() else "no", change.session, change.number, change.name, *columns(change.old),
+        *columns(change.new), *(of.get(code, "") for of, code in zip(titles, codes)), change.old_name,
+        "; ".join(change.also())])]
 
 
 def titles_of(*readings: Reading) -> Titles:

@@ -93,16 +93,14 @@ def alone(office: Office, words: Sequence[str]) -> Iterator[FileIO]:
 
 def is_taken(office: Office, *names: str) -> bool:
     """Whether somebody has the lock on a file beside the office; nobody has that on one that is not there."""
-    with (contextlib.suppress(FileNotFoundError),
-          open(beside.open_file(office.path, *names, flags=os.O_RDONLY), "rb", buffering=0) as file):
+    with contextlib.suppress(FileNotFoundError), open(beside.open_file(office.path, *names), "rb", 0) as file:
         return not is_free(file)
     return False
 
 
 def keep_state(office: Office) -> Said | None:
     """What `keep` has said of itself; None where it does not run, as in a folder that is not ours alone."""
-    with (contextlib.suppress(OSError, beside.Strange),
-          open(beside.open_file(office.path, "keep.lock", flags=os.O_RDONLY), "rb") as lock):
+    with contextlib.suppress(OSError, beside.Strange), open(beside.open_file(office.path, "keep.lock"), "rb") as lock:
         asked = fcntl.fcntl(lock, fcntl.F_GETLK, struct.pack(FLOCK, fcntl.F_WRLCK, os.SEEK_SET, 0, 0, 0))
         kind, *_, process = struct.unpack(FLOCK, asked)
         if kind != fcntl.F_UNLCK:

@@ -37,17 +37,12 @@ FIRST = {*guard.OPEN, "entering.leave", "season.page", "season.init", "files.tem
          "office.copy", "office.back", "office.handbook"}  # what can be asked where there is no office
 
 
-class Number(IntegerConverter):
-    """The number of a candidate in an address."""
-    regex = "[0-9]{1,7}"
-
-
 def make(here: Desk) -> Flask:
     """The pages of a desk behind its guard; every fault becomes a page."""
     app = Flask(__name__)
     app.extensions["desk"] = here
     app.extensions["guard"] = guard.Guard(app, here.address, here.prefix)
-    app.url_map.converters["int"] = Number
+    app.url_map.converters["int"] = type("Number", (IntegerConverter,), {"regex": "[0-9]{1,7}"})  # of a candidate
     wording.prepare(app)
     app.jinja_env.globals.update(
         FEATURES=FEATURES, RUNNING=notebook.RUNNING, SHEETS=[*PAPERS], has_handbook=office.HANDBOOK is not None,
@@ -122,10 +117,6 @@ def another_link(office: Office) -> str:
     """A new link to the desk that runs. Raises `Trouble` where none does."""
     if not turns.is_taken(office, LOCK):
         raise Trouble("no desk of this office runs: `office desk` opens one")
-    return link_of_running(office)
-
-
-def link_of_running(office: Office) -> str:
     place = beside.text_of(office.path, LOCK).split()
     if len(place) != 2:
         raise Trouble("a desk of this office begins or ends just now; try again")
@@ -136,15 +127,13 @@ def serve(office: Office, ports: Sequence[int], pretended: bool, ready: Callable
     """Serves until a signal ends it; `ready` is given the first link, or one to the office's desk that runs already."""
     with turns.lock_file(office, LOCK) as lock, contextlib.ExitStack() as stack:
         if not turns.try_lock(lock):
-            ready(link_of_running(office))
+            ready(another_link(office))
             return
         listening = stack.enter_context(listener(ports))
         address, prefix = f"{HOST}:{listening.getsockname()[1]}", f"/{secrets.token_urlsafe(12)}"
-        here = Desk(office, address, prefix, pretended)
-        stack.callback(setattr, here, "held", None)  # behind the two below
         stack.callback(guard.drop_links, office.path)
         stack.callback(lock.truncate, 0)
-        door = make(here).extensions["guard"].door
+        door = make(Desk(office, address, prefix, pretended)).extensions["guard"].door
         turns.note(lock, f"{address} {prefix}")
         guard.drop_links(office.path)
         logging.getLogger("waitress.queue").setLevel(logging.ERROR)  # that a request waits is nothing to say

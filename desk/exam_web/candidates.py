@@ -5,6 +5,7 @@ from collections.abc import Callable
 from functools import partial
 
 from flask import Blueprint, abort, redirect, render_template, request, url_for
+from markupsafe import Markup
 from werkzeug.datastructures import MultiDict
 from werkzeug.wrappers import Response
 
@@ -14,18 +15,17 @@ from exam_desk.reading import Person
 from exam_desk.sheets import slips as slip_pages
 from exam_desk.sheets import texts
 from exam_web import proposals
-from exam_web.desk import (Form, Page, Wrong, as_known, at_field, at_one_time, candidate_row, checked, desk, lead,
-                           office, styled, sums, tell_papers, view)
+from exam_web.desk import (Form, Page, Wrong, as_known, at_field, at_one_time, checked, desk, lead, office, styled,
+                           sums, tell_papers, view)
 from exam_web.proposals import APPEALS, BY_DAY, PLANS, TROUBLE, Plan, command, import_step
 from exam_web.session import Session
-from exam_web.wording import link, text
+from exam_web.wording import shown, text
 
 pages = Blueprint("candidates", __name__)
 appeal_pages = Blueprint("appeals", __name__)
 clash_pages = Blueprint("clashes", __name__)
 MOST_FOUND, MOST_ASKED = 100, 80
 MOST_SHOWN, MOST_MOVES = 300, 12
-Values = dict[str, str]
 
 
 @pages.get("/candidates")
@@ -52,11 +52,16 @@ def papers_without(number: int = -1) -> list[sqlite3.Row]:
     return [row for row in found if row["code"] not in made]
 
 
+def candidate_row(number: int | str) -> sqlite3.Row:
+    return view().row("SELECT number, printf('%07d', number) AS seven, name, code FROM candidate "
+                      "WHERE number = ?1 AND seven = ?1", [str(number).zfill(7)]) or abort(404)
+
+
 @pages.get("/candidates/<int:number>")
 def page(number: int, code: str = "") -> str:
     """All of a candidate; the access code only where it was asked for."""
-    who, seven = candidate_row(number), f"{number:07}"
-    reading, entries = view().reading, view().rows(texts.ENTRIES, [number])
+    who = candidate_row(number)
+    seven, reading, entries = who["seven"], view().reading, view().rows(texts.ENTRIES, [number])
     later = {first["code"] for first, second in second_sitting.pairs(reading.rows)
              if second_sitting.is_live(reading.rows, seven, second["code"])}
     return render_template("candidate.html", who=who, entries=entries, sittings=reading.all_of(seven),
@@ -75,13 +80,12 @@ def code(number: int) -> str:
 
 @pages.post("/candidates/<int:number>/note")
 def note(number: int) -> Response:
-    candidate_row(number)
-    page_of: Page = ("candidates.page", {"number": number})
-    known = notebook.notes(desk().office).get(f"{number:07}", "")
+    seven, page_of = candidate_row(number)["seven"], ("candidates.page", {"number": number})
+    known = notebook.notes(desk().office).get(seven, "")
     given = as_known(checked(page_of, request.form, note=typed.REASON)["note"], known)
     if as_known(request.form.get("was", known), known) != known:
         raise Wrong(page_of, note=text("somebody has changed it meanwhile; it says: {note}", note=known or "–"))
-    notebook.take_notes(office(), {f"{number:07}": given})
+    notebook.take_notes(office(), {seven: given})
     told = text("The note is kept.") if given else text("There is no note on this candidate.")
     tell_papers()
     return lead("candidates.page", told, number=number)
@@ -97,7 +101,7 @@ def all_notes() -> str:
 @pages.post("/candidates/<int:number>/slip")
 def slips(number: int | None = None) -> str:
     """The slips of one candidate or of all, for all sessions or one, by a file's groups; for one with desk numbers."""
-    only = [] if number is None else [f"{candidate_row(number)['number']:07}"]
+    only = [] if number is None else [candidate_row(number)["seven"]]
     brought, groups = request.files.get("groups"), dict[str, str]()
     if brought:
         with at_field(("candidates.find", {}), "groups"):
@@ -132,7 +136,7 @@ def if_granted(number: int, ref: str) -> str:
     row = appeal_row(number, ref)
     if row["state"] != 1:
         abort(404)
-    plan = decide(MultiDict({"number": f"{number:07}", "ref": ref, "outcome": "granted"}))
+    plan = decide(MultiDict({"number": str(number), "ref": ref, "outcome": "granted"}))
     with desk().rehearsing:
         proposals.rehearse(plan, desk(), desk().office)
     return render_template("if_granted.html", row=row, e=plan.effects, refusal=plan.against, most=MOST_MOVES)
@@ -157,7 +161,7 @@ def overlapping() -> str:
 
 @clash_pages.get("/clashes/<code>/<int:number>")
 def second(code: str, number: int) -> str | Response:
-    shown, who = Session(code), f"{candidate_row(number)['number']:07}"
+    shown, who = Session(code), candidate_row(number)["seven"]
     member, missed = view().reading.member(code, who), view().reading.clashes(code, [who]).get(who)
     if not member or not missed:
         return redirect(url_for("clashes.page", session=code))
@@ -165,24 +169,23 @@ def second(code: str, number: int) -> str | Response:
                            titles=facts.paper_titles(view().reading.rows))
 
 
-def candidate(form: Form, **columns: str) -> tuple[Values, Page]:
+def candidate(form: Form, *names: str, **columns: str) -> tuple[dict[str, str], Page]:
     """The number and the name of a candidate, with the needs and the values of fields; and the candidate's page."""
-    number = form.get("number", "")
-    row = view().row("SELECT number, name FROM candidate WHERE printf('%07d', number) = ?", [number]) or abort(404)
+    row = candidate_row(form.get("number", ""))
     page = ("candidates.page", {"number": row["number"]})
-    return {"number": number, "name": row["name"], **checked(page, form, needs="needs", **columns)}, page
+    return {"number": row["seven"], "name": row["name"], **checked(page, form, "needs", *names, **columns)}, page
 
 
-def of_one(field: str, step: Callable[[Values], Step], form: Form, is_of_now: bool = False) -> Plan:
+def of_one(field: str, step: Callable[[dict[str, str]], Step], form: Form, is_of_now: bool = False) -> Plan:
     """A plan with a step for each value of a field of a candidate, beside which refusals stand; the steps suit any
     state of the office, or that of now alone."""
     values, page = candidate(form)
-    asked = [checked(page, MultiDict({field: value}), **{field: field})[field] for value in form.getlist(field) or [""]]
+    asked = [checked(page, MultiDict({field: value}), field)[field] for value in form.getlist(field) or [""]]
     steps = [step({**values, field: as_known(value, values.get(field, ""))}) for value in asked]
     return Plan({**values, field: ", ".join(asked)}, steps, page, field, made_for=view().name if is_of_now else "")
 
 
-def with_code(is_new: bool, values: Values) -> Step:
+def with_code(is_new: bool, values: dict[str, str]) -> Step:
     """The import of a candidate with the access code that there is, or with one that nobody has."""
     codes = facts.access_codes(view().reading.rows)
     code = coding.new_code({*codes.values()}) if is_new else codes[values["number"]]
@@ -191,11 +194,11 @@ def with_code(is_new: bool, values: Values) -> Step:
 
 def new_candidate(form: Form) -> Plan:
     form_page: Page = ("candidates.find", {})
-    values = checked(form_page, form, number="number", name="name")
+    values = checked(form_page, form, "number", "name")
     page: Page = ("candidates.page", {"number": int(values["number"])})
     if there := view().row("SELECT name FROM candidate WHERE number = ?", [page[1]["number"]]):
-        raise Wrong(form_page, number=text("the office has this number: {name}",
-                                           name=link(url_for(page[0], **page[1]), there["name"])))
+        who = Markup('<a href="{}">{}</a>').format(url_for(page[0], **page[1]), shown(there["name"]))
+        raise Wrong(form_page, number=text("the office has this number: {name}", name=who))
     values["papers"] = ", ".join(papers := form.getlist("paper"))
     entries = second_sitting.imported("entries", *([values["number"], paper] for paper in papers))
     return Plan(values, [with_code(True, values), *([entries] if papers else [])], page, "paper", form_page=form_page,
@@ -204,7 +207,7 @@ def new_candidate(form: Form) -> Plan:
 
 def lodge(form: Form) -> Plan:
     """An appeal for a candidate who is there, lodged over HTTP as candidates do: so its reason is no argument."""
-    values, page = candidate(form, session="session", kind=typed.KIND, reason=typed.REASON)
+    values, page = candidate(form, "session", typed.REASON, kind=typed.KIND)
     kind = values["kind"]
     field = "wanted_extra" if kind == "arrangement" else f"wanted_{kind}"
     wanted = [values["needs"]] if kind == "arrangement" else []
@@ -218,7 +221,7 @@ def decide(form: Form) -> Plan:
     values, _ = candidate(form)
     found = appeal_row(int(values["number"]), form.get("ref", ""))
     page: Page = ("appeals.one", {"number": found["number"], "ref": found["ref"]})
-    values |= {"ref": found["ref"], **checked(page, form, outcome="outcome", reason=typed.REASON)}
+    values |= {"ref": found["ref"], **checked(page, form, "outcome", typed.REASON)}
     return Plan(values, [command("decide", ["number", "ref", "outcome", "reason"], values)], page, "outcome")
 
 
@@ -228,7 +231,7 @@ def of_second(make: Callable[..., second_sitting.Plan], names: list[str], beside
     values, page = candidate(form)
     if "session" in form:  # it stands on the page of the two papers
         page = "clashes.second", {"code": Session(form["session"]).code, "number": int(values["number"])}
-    values |= checked(page, form, **{name: name for name in names})
+    values |= checked(page, form, *names)
     with at_field(page, beside):
         found = make(view().reading, values["number"], *map(values.get, names))
     return Plan(values, found.steps, page, beside, {TROUBLE: beside}, command=found.title, made_for=view().name,

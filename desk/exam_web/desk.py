@@ -15,7 +15,7 @@ from collections.abc import Callable, Iterator, Mapping, Sequence
 from dataclasses import dataclass, field
 from typing import Any, Concatenate, NamedTuple, ParamSpec, TypeVar
 
-from flask import abort, current_app, g, redirect, request, url_for
+from flask import current_app, g, redirect, request, url_for
 from flask.typing import ResponseReturnValue
 from markupsafe import Markup
 from werkzeug.datastructures import MultiDict
@@ -164,10 +164,6 @@ def view() -> View:
     return found
 
 
-def candidate_row(number: int) -> sqlite3.Row:
-    return view().row("SELECT number, name, code FROM candidate WHERE number = ?", [number]) or abort(404)
-
-
 class Asked(NamedTuple):
     """What a form was given: its name on the page, all its values, and what is wrong, by field."""
     form: str = ""
@@ -223,8 +219,10 @@ def tell_papers() -> None:
                      for session, found in on_paper.otherwise(desk().office).items()]
 
 
-def checked(page: Page, form: Form, **columns: str) -> dict[str, str]:
-    """The values of fields, in the forms of columns; what is wrong stands at its field. A number may lack its zeros."""
+def checked(page: Page, form: Form, *names: str, **columns: str) -> dict[str, str]:
+    """The values of fields, each in the form of the column of its name, or of another one; what is wrong stands at its
+    field. A number may lack its zeros."""
+    columns |= dict(zip(names, names))
     values = {name: value_of(form, name, column) for name, column in columns.items()}
     if wrong := {name: cure(column) for name, column in columns.items() if not typed.is_right(column, values[name])}:
         raise Wrong(page, **wrong)

@@ -58,8 +58,8 @@ class Effects(effects.Effects):
         self.to_tell = [each for each in self.changes if each.is_to_tell()]
         self.desk_only = Counter(each.session for each in self.kinds.get("desk", []))  # by session
         self.new = facts.access_codes(now.rows).keys() - facts.access_codes(then.rows).keys()  # without a page before
-        self.sessions = [(was.get(code), are.get(code)) for code in {**are, **was} if code in self.touched
-                         and not (code in was and code in are and NUMBERS(was[code]) == NUMBERS(are[code]))]
+        self.sessions = [(was.get(code), are.get(code)) for code in {**are, **was}
+                         if not (code in was and code in are and NUMBERS(was[code]) == NUMBERS(are[code]))]
         self.rows = [*itertools.islice(telling.other_values(then, now), MOST_ROWS)]
         self.clashing = [(code, now.member(code, person.number), missed)
                          for code, person, missed in self.clashes[:MOST_ROWS]]
@@ -93,7 +93,7 @@ class Plan:
     asked: Asked = field(default_factory=lambda: Asked((request.view_args or {}).get("what", ""), request.form))
     key: str = ""
     lock: threading.Lock = field(default_factory=threading.Lock)  # of who does it
-    working: threading.Thread | None = None
+    working: threading.Thread = field(default_factory=threading.Thread)  # which rehearses or does it
     stage: str = ""
     since: str = ""  # when the state was read
     made_from: str = ""  # the states from before the rehearsal, and after it
@@ -109,12 +109,8 @@ class Plan:
     lodged: str = ""  # the reference of an appeal, on the copy too
 
     @property
-    def is_working(self) -> bool:
-        return self.working is not None and self.working.is_alive()
-
-    @property
     def can_be_done(self) -> bool:
-        return not (self.is_done or self.is_working or self.against or self.effects is None)
+        return not (self.is_done or self.working.is_alive() or self.against or self.effects is None)
 
     def way_back(self) -> str:
         """The address of the page with the form; as long as nothing is done, all that was given is still in it."""
@@ -164,7 +160,7 @@ def propose(what: str) -> Response:
     work(plan, rehearse)
     number = refusals.number_of(plan.refusal) or TROUBLE
     name = plan.fields.get(number, plan.beside if number not in (TROUBLE, *OF_THE_OFFICE) else "")
-    if name and plan.against and not plan.is_working:
+    if name and plan.against and not plan.working.is_alive():
         raise Wrong(plan.form_page or plan.page, **{name: Markup("; ").join(map(said, plan.against))})
     plan.key = keep(g.visit.proposals, MOST_PROPOSALS, plan)
     return lead("proposals.page", key=plan.key)
@@ -252,7 +248,7 @@ def copy_key(path: str) -> str:
 def page(key: str) -> str:
     """A plan at its stage: how far it is, what it would change or has changed, or why it cannot be."""
     plan: Plan = g.visit.proposals.get(key) or abort(404)
-    if plan.is_working:
+    if plan.working.is_alive():
         return render_template("working.html", p=plan)
     copy, following = plan.carried and plan.carried.copy, None
     kept = copies.listed(desk().office) if copy else []

@@ -4,10 +4,10 @@ from collections import Counter
 from collections.abc import Iterator
 from typing import Any, NamedTuple
 
-from flask import Blueprint, render_template, request, url_for
+from flask import Blueprint, render_template, request
 from werkzeug.wrappers import Response
 
-from exam_desk import appeals, changing, logbook, notebook, on_paper, turns
+from exam_desk import appeals, changing, logbook, notebook, on_paper, refusals, turns
 from exam_desk.effects import UNSEATED
 from exam_desk.telling import people_and_sittings
 from exam_desk.office import Trouble
@@ -21,26 +21,28 @@ SOON, URGENT = 14, 3  # days before a session, or the last day to lodge; before 
 RECENT = 7  # days after a session in which it is missed that nobody noted who was absent
 ASKED = "SELECT session, printf('%07d', number) FROM appeal WHERE kind = 2 AND state IN (1, 2)"  # open, or granted
 OPEN_KINDS = "SELECT kind, count(*) FROM appeal WHERE session = ? AND state = 1 GROUP BY kind"
-LEVELS = ["late", "now", "soon", "note"]
+LEVELS = ["late", "now", "soon", "note"]  # the most urgent first
 
 
 class Attention(NamedTuple):
-    """What needs a person. Its words are in templates/attention.html."""
+    """What needs a person. Its words, and to where it leads, are in templates/attention.html."""
     level: str  # one of LEVELS
     day: str | None  # by which it must be done
     what: str
-    link: str  # to where it is mended
     values: dict[str, Any] = {}
 
 
 @pages.get("/")
 def page() -> str:
-    """The season, or where there is no office how one begins. As a piece, or with `all`, it has asked of everybody."""
+    """The season, what is most urgent first, or where there is no office how one begins. The program is asked of
+    everybody for a piece, or with `all`."""
     if not desk().is_there():
         return render_template("begin.html")
     found = list(sums(view()).values())
     is_whole = "piece" in request.args or "all" in request.args
-    return render_template("season.html", sessions=found, weeks=weeks_of(found), attention=attention(found, is_whole),
+    attention = sorted([*of_sessions(found, is_whole), *of_office(found, is_whole)],
+                       key=lambda each: (LEVELS.index(each.level), each.day or "9"))
+    return render_template("season.html", sessions=found, weeks=weeks_of(found), attention=attention,
                            is_whole=is_whole, deadlines=deadlines(found), most=MOST_SHOWN,
                            candidates=view().count("SELECT count(*) FROM candidate"),
                            short=people_and_sittings([number for _, number in sittings(view(), UNSEATED)]),
@@ -53,7 +55,8 @@ def init() -> Response:
         return lead("season.page")
     done = changing.make_new(office())
     if done.status:
-        raise Trouble(done.complaint.strip())
+        said = refusals.explained(desk().office, changing.NEW.words, done.complaint)
+        raise Trouble([*said, done.complaint.strip() or done.ending()][0])
     return lead("season.page", text("The office is there, and empty. Bring a workbook or the seven files."))
 
 
@@ -64,12 +67,6 @@ def weeks_of(found: list[Sums]) -> list[list[tuple[str, list[Sums]]]]:
     width = 7 if any(date.weekday() > 4 for date in dates) else 5
     weeks = [[(monday + datetime.timedelta(place)).isoformat() for place in range(width)] for monday in mondays]
     return [[(day, [each for each in found if each.day == day]) for day in week] for week in weeks]
-
-
-def attention(found: list[Sums], is_whole: bool) -> list[Attention]:
-    """What to do, the most urgent first; what the program has to be asked for only where all is wanted."""
-    todo = [*of_sessions(found, is_whole), *of_office(found, is_whole)]
-    return sorted(todo, key=lambda each: (LEVELS.index(each.level), each.day or "9"))
 
 
 def level(day: str, urgent: int) -> str:
@@ -87,23 +84,17 @@ def of_sessions(found: list[Sums], is_whole: bool) -> Iterator[Attention]:
         last, lodge = appeals.last_day(each.day), appeals.last_day(each.day, "clash")
         if each.waiting:
             kinds = {appeals.KINDS[kind]: count for kind, count in view().rows(OPEN_KINDS, [each.code])}
-            yield Attention(level(last, URGENT), last, "appeals", url_for("appeals.page", _anchor=each.code),
-                            {**here, "count": each.waiting, "kinds": kinds})
+            yield Attention(level(last, URGENT), last, "appeals", {**here, "count": each.waiting, "kinds": kinds})
         if soon == "late":
             continue
         if each.short:
-            yield Attention(soon, each.day, "short", place_of(each.code, "short"), {**here, "count": each.short})
+            yield Attention(soon, each.day, "short", {**here, "count": each.short})
         if twice[each.code]:
             day = lodge if days_until(lodge) >= 0 else each.day
-            yield Attention("now" if days_until(lodge) <= URGENT else "soon", day, "clashes",
-                            url_for("clashes.page", session=each.code), {**here, "count": twice[each.code]})
+            is_soon = days_until(lodge) <= URGENT
+            yield Attention("now" if is_soon else "soon", day, "clashes", {**here, "count": twice[each.code]})
         if is_whole and (paper := on_paper.compared(view().reading, each.code)) and not paper.holds():
-            yield Attention(soon, each.day, "printed", place_of(each.code, "print"),
-                            {**here, "count": len(paper.moves), "halls": paper.halls()})
-
-
-def place_of(code: str, place: str) -> str:
-    return url_for("session.page", code=code, _anchor=place)
+            yield Attention(soon, each.day, "printed", {**here, "count": len(paper.moves), "halls": paper.halls()})
 
 
 def of_office(found: list[Sums], is_whole: bool) -> Iterator[Attention]:
@@ -112,16 +103,16 @@ def of_office(found: list[Sums], is_whole: bool) -> Iterator[Attention]:
     coming = {each.code: each.day for each in found if days_until(each.day) >= 0}
     noted = notebook.sessions_with(desk().office, "absent")
     if broken := logbook.broken_off(desk().office):
-        link = url_for("office.copy", key=copy_key(broken.copy)) if broken.copy else url_for("office.page")
-        yield Attention("late", None, "broken", link, {"command": broken.command, "when": broken.when})
+        yield Attention("late", None, "broken", {"command": broken.command, "when": broken.when,
+                                                 "key": copy_key(broken.copy) if broken.copy else ""})
     if coming and turns.keep_state(desk().office) is None:
-        yield Attention("note", None, "unserved", url_for("office.page", _anchor="serve"))
+        yield Attention("note", None, "unserved")
     if late := [each.code for each in found
                 if -RECENT <= days_until(each.day) < 0 < each.members and each.code not in noted]:
-        yield Attention("soon", None, "absent", place_of(late[0], "absent"), {"sessions": late})
+        yield Attention("soon", None, "absent", {"sessions": late})
     if is_whole and (pairs := [each for each in at_one_time(view()) if each.early in coming]):
         day = coming[pairs[0].early]
-        yield Attention(level(day, SOON), day, "overlaps", url_for("clashes.overlapping"), {"pairs": pairs})
+        yield Attention(level(day, SOON), day, "overlaps", {"pairs": pairs})
 
 
 def deadlines(found: list[Sums]) -> list[tuple[str, dict[str, list[str]]]]:

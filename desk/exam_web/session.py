@@ -9,7 +9,7 @@ from typing import Any
 from flask import Blueprint, abort, g, render_template, request
 from werkzeug.wrappers import Response
 
-from exam_desk import facts, files, lists, notebook, on_paper, reasons, remedies, second_sitting
+from exam_desk import facts, files, lists, notebook, on_paper, reasons, second_sitting
 from exam_desk.facts import Opening
 from exam_desk.notebook import Rows
 from exam_desk.overlaps import of_day
@@ -82,8 +82,8 @@ def shortage(view: View, code: str) -> dict[str, Any]:
     why, sheet = reasons.compared(view.reading, code)
     found = [(member, why.needs(member), [(hall, reason.partition(": ")[0]) for hall, reason in why.of(member)])
              for member in why.unseated()[:MOST_EXPLAINED]]  # who sits in a full hall is left out
-    return {"sheet": sheet, "reasons": found, "remedies": remedies.best(view.reading.rows, why, sheet),
-            "lacking": remedies.lacking(view.reading.rows, why)}
+    return {"sheet": sheet, "reasons": found, "remedies": reasons.best(why, sheet),
+            "lacking": reasons.lacking(why)}
 
 
 @pages.get("/sessions/<code>/halls/<hall>", endpoint="hall")
@@ -115,19 +115,20 @@ def paper_page(paper: str) -> str:
 @pages.post("/sessions/<code>/draw")
 def draw(code: str) -> Response:
     """Keeps how the desks of halls stand; nobody moves. It leads to the charts that wait for that, else to the hall."""
-    shown = Session(code)
-    halls = [shown.opening(hall).hall for hall in request.form.getlist("hall")] or abort(400)
-    charts: Page = ("session.sheet", {"code": code, "sheet": "chart", "hall": request.form.getlist("of")})
-    drawn, is_chart = {hall: Rows(request.form.get(f"across-{hall}", 0, int), request.form.get(f"running-{hall}", ""))
-                       for hall in halls}, "chart" in request.form
+    shown, form = Session(code), request.form
+    halls = [shown.opening(hall).hall for hall in form.getlist("hall")] or abort(400)
+    drawn = {hall: Rows(form.get(f"across-{hall}", 0, int), form.get(f"running-{hall}", "")) for hall in halls}
+    page: Page = shown.hall_page(halls[0]) if "chart" not in form else (
+        "session.sheet", {"code": code, "sheet": "chart", "hall": form.getlist("of")})
     cure = text("a whole number from {low} to {high}", low=1, high=notebook.MOST_ACROSS)
     if wrong := {f"across-{hall}": cure for hall, rows in drawn.items() if not notebook.can_stand(rows)}:
-        raise Wrong(charts if is_chart else shown.hall_page(halls[0]), **wrong)
+        raise Wrong(page, **wrong)
     for hall, rows in drawn.items():
         notebook.keep_rows(office(), hall, rows)
     tell_papers()
-    g.visit.said += [] if is_chart else [("good", text("{hall} is drawn so now.", hall=halls[0]))]  # beside its picture
-    return lead(charts[0], **charts[1]) if is_chart else lead("session.page", code=code, _anchor=f"hall-{halls[0]}")
+    if "chart" in form:
+        return lead(page[0], **page[1])
+    return lead("session.page", text("{hall} is drawn so now.", hall=halls[0]), code=code, _anchor=f"hall-{halls[0]}")
 
 
 @pages.post("/sessions/<code>/absent")
@@ -136,7 +137,7 @@ def absent(code: str) -> Response:
     shown, ticked, was = Session(code), *(set(request.form.getlist(name)) for name in ("absent", "was"))
     typed = parted(request.form.get("numbers", ""))
     with at_field(shown.page, "numbers"):
-        found = notebook.note_absent(office(), view().reading, code, [*sorted(ticked - was), *typed], was - ticked,
+        found = notebook.note_absent(office(), view().reading, code, [*(ticked - was), *typed], was - ticked,
                                      "nobody" in request.form)
     told = many(len(found), "{count} candidate is noted as absent in {session}.",
                 "{count} candidates are noted as absent in {session}.", session=code)
@@ -162,10 +163,9 @@ def sheet(code: str, sheet: str, hall: Sequence[str] = ()) -> str:
     if sheet == "slips":
         return styled(slips.page(view().reading, slips.Choice([code], desks=True)))
     drawn = notebook.rows_of_halls(desk().office)
-    if sheet == "chart" and (asked := [opening for opening, _ in lists.halls(view().reading, code, halls)
-                                       if opening.hall not in drawn]):
-        found = [(each, standing(each)) for each in asked]
-        return render_template("charts.html", s=shown.sums, halls=found, of=halls)
+    if sheet == "chart" and (asked := [(each, standing(each)) for each, _ in lists.halls(view().reading, code, halls)
+                                       if each.hall not in drawn]):
+        return render_template("charts.html", s=shown.sums, halls=asked, of=halls)
     return styled(papers.page(view().reading, sheet, code, halls))
 
 
@@ -199,7 +199,7 @@ def opening(form: Form, page: Page | None = None) -> Plan:
     page = page or (shown.hall_page(form.get("hall", "")) if "at" in form else shown.page)
     is_new = form.get("new_hall", "").strip() != ""
     fields = {"new_hall": "hall", "new_title": "title", "new_features": "features"} if is_new else {"hall": "hall"}
-    values = checked(page, form, **fields, desks="desks", until="until", reserved="reserved")
+    values = checked(page, form, "desks", "until", "reserved", **fields)
     values |= {"session": shown.code, **{column: values[name] for name, column in fields.items()}}
     if is_new and view().row("SELECT 1 FROM hall WHERE code = ?", [values["hall"]]):
         raise Wrong(page, new_hall=text("the office has this hall: choose it from the list"))
@@ -233,10 +233,10 @@ def change_row(kind: str, form: Form) -> Plan:
     shown, code = Session(form.get("at", "")), form.get(table, "")
     row = view().row(f"SELECT * FROM {table} WHERE code = ?", [code]) or abort(404)
     page = {"paper": ("session.paper", {"paper": code}), "hall": shown.hall_page(code)}.get(table, shown.page)
-    values = {table: code, **checked(page, form, **dict(zip(columns, columns)))}
+    values = {table: code, **checked(page, form, *columns)}
     if "title" in values:
         values["title"] = as_known(values["title"], row["title"])
-    beside = "session" if "session" in columns else columns[0]
+    beside = "session" if kind == "papers" else ""  # other values in the right forms are refused to nobody
     return Plan(values, [import_step(kind, values)], shown.page, beside, form_page=page)
 
 
@@ -245,7 +245,7 @@ def change_session(form: Form) -> Plan:
     shown, plan = Session(form.get("session", "")), change_row("sessions", form)
     later = of_day(plan.values["start"]) - shown.sums.start
     if later and shown.halls and form.get("along"):
-        rows = [(shown.code, each.hall, each.desks, clock(min(max(each.until + later, 0), remedies.MIDNIGHT)),
+        rows = [(shown.code, each.hall, each.desks, clock(min(max(each.until + later, 0), reasons.MIDNIGHT)),
                  "yes" if each.reserved else "no") for each in shown.halls.values()]
         halls = second_sitting.imported("openings", *rows)
         plan.steps, plan.made_for = [halls, *plan.steps] if later > 0 else [*plan.steps, halls], view().name

@@ -26,7 +26,7 @@ from exam_desk.workbook import tables
 from exam_desk.workbook.cells import MOST_CELLS, MOST_FILE, NO_WORKBOOK, Book
 from exam_desk.workbook.headers import HEADER_WORDS, Given, folded, is_called_list, read_columns
 from exam_desk.workbook.opening import book_of
-from exam_desk.workbook.reading import encoded, read_book, workbook_of
+from exam_desk.workbook.reading import read_book
 from exam_desk.workbook.values import Way
 from exam_desk.words import plain
 from exam_web.desk import Form, Page, Wrong, archive, at_field, attached, keep, lead, view
@@ -104,14 +104,14 @@ def parts(upload: Upload, storages: Iterable[FileStorage]) -> Iterator[tuple[str
     """Each file by its bare name, and those of a zip, with the bytes that it may have; a zip of too many is left."""
     for storage in storages:
         name = bare(storage.filename or "")
-        if name and not name.lower().endswith(".zip"):
-            content = storage.stream.read()
-            yield name, content, MOST_FILE if content.startswith(b"PK") else files.MOST_BYTES
-        elif name:
+        if name.lower().endswith(".zip"):
             try:
                 yield from members(upload, name, zipfile.ZipFile(storage.stream))
             except backups.UNREADABLE as fault:
                 upload.note(name, text("it cannot be read: {why}", why=str(fault)))
+        elif name:
+            content = storage.stream.read()
+            yield name, content, MOST_FILE if content.startswith(b"PK") else files.MOST_BYTES
 
 
 def members(upload: Upload, name: str, archive: zipfile.ZipFile) -> Iterator[tuple[str, bytes, int]]:
@@ -199,7 +199,7 @@ def take_rows(upload: Upload, name: str, form: str, job: tables.Job) -> None:
     upload.lines = [line for line in tables.together(job.lines) if line.what != mistakes.NO_CODE]
     upload.counts = Counter(line.sort for line in job.lines)
     if upload.counts["mistake"]:
-        upload.rows = {kind: [tuple(map(encoded, each.fields)) for each in found]
+        upload.rows = {kind: [tuple(map(files.encoded, each.fields)) for each in found]
                        for kind, found in job.records.items()}
         return
     upload.is_called_list |= any(is_called_list(each.sheet.name) for each in job.records.get("entries", []))
@@ -297,7 +297,7 @@ def upload() -> Response:
     with at_field(("files.page", {}), "files"):
         found = taken(request.files.getlist("files"), way, hidden)
     if not (found.texts or found.notes or found.lines):
-        return lead("files.page", text("Choose the files first."), "bad")
+        raise Wrong(("files.page", {}), files=text("Choose the files first."))
     return lead("files.look", key=keep(g.visit.uploads, MOST_UPLOADS, found))
 
 
@@ -336,7 +336,7 @@ def download(key: str, kind: str) -> Response:
 @pages.get("/files/school.xlsx")
 def template() -> Response:
     """The empty workbook of `office template`."""
-    return attached(workbook_of(None), "school.xlsx", WORKBOOK)
+    return attached(dumping.workbook_of(None), "school.xlsx", WORKBOOK)
 
 
 @pages.post("/files/dump")

@@ -20,7 +20,6 @@ from exam_desk.words import Said, clock, features, plain
 COMMAND = re.compile("(`[^`]+`)")
 NAMED = re.compile("`office ([a-z-]+).*`")
 PAGES = {"back": "office.page", "init": "season.page", "look": "candidates.find"}  # by the command that does the same
-MOST_LETTERS = 10  # of a name at a desk
 LANGUAGES: dict[str, dict[str, str]] = {
     path.stem: json.loads(path.read_text("utf-8"))
     for path in sorted((pathlib.Path(__file__).parent / "languages").glob("*.json"))}
@@ -42,7 +41,7 @@ def text(english: str, **values: object) -> Markup:
 def said(words: str | Said) -> Markup:
     """What the package says, in the reader's language if the table has it. Commands lead to their pages."""
     if isinstance(words, Said):
-        return text(words.text, **{name: value_said(value) for name, value in words.values.items()})
+        return text(words.text, **words.values)
     if found := LANGUAGES.get(language(), {}).get(words):
         return Markup(found)
     for pattern, other in FORMED.get(language(), ()):
@@ -58,16 +57,6 @@ def refused(trouble: Trouble) -> Markup:
     return Markup("{}: {}").format(shown(trouble.place), words) if trouble.place else words
 
 
-def link(address: str, value: object) -> Markup:
-    return Markup('<a href="{}">{}</a>').format(address, shown(value))
-
-
-def value_said(value: object) -> Markup:
-    if isinstance(value, list):
-        return Markup(", ").join(map(value_said, value))
-    return said(value) if isinstance(value, Said) else shown(value)
-
-
 def command_said(part: str) -> str:
     """A part of a text, which leads to a page where it is a command that has one."""
     if (found := NAMED.fullmatch(part)) and found[1] in PAGES:
@@ -81,7 +70,11 @@ def many(count: int, one: str, more: str, **values: object) -> Markup:
 
 
 def shown(value: object) -> Markup:
-    """A value of the office: what hides in it is shown as `?`, and its direction stays its own."""
+    """A value of the office: what hides in it is shown as `?`, and its direction stays its own; or what is said."""
+    if isinstance(value, list):
+        return Markup(", ").join(map(shown, value))
+    if isinstance(value, Said):
+        return said(value)
     if isinstance(value, Markup) or not isinstance(value, str):
         return escape(value)
     return Markup("<bdi>{}</bdi>").format(plain(value))
@@ -103,16 +96,11 @@ def days_until(iso: str) -> int:
     return (datetime.date.fromisoformat(iso) - today).days
 
 
-def short(name: str) -> str:
-    """The surname, as far as a desk of a picture has room."""
-    surname, _ = parted(plain(name))
-    return surname if len(surname) <= MOST_LETTERS else surname[:MOST_LETTERS - 1] + "…"
-
-
 def prepare(app: Flask) -> None:
     """Gives the pages of an application their words. No hidden character of a text that they write goes out."""
     app.jinja_env.trim_blocks = app.jinja_env.lstrip_blocks = True
     app.jinja_env.finalize = lambda value: plain(value) if type(value) is str else value
     app.jinja_env.globals.update(_=text, many=many, language=language)
-    app.jinja_env.filters.update(shown=shown, num=number, day=day, clock=clock, features=features,
-                                 short=short, said=said, until=days_until, seven=lambda value: f"{int(value):07}")
+    app.jinja_env.filters.update(
+        shown=shown, num=number, day=day, clock=clock, features=features, said=said, until=days_until,
+        seven=lambda value: f"{int(value):07}", surname=lambda name: parted(plain(name))[0])

@@ -26,7 +26,7 @@ from exam_desk.facts import session_row
 from exam_desk.lists import fold, name_order
 from exam_desk.office import Office
 from exam_desk.reading import Reading
-from exam_desk.sheets import papers, printing, slips, texts
+from exam_desk.sheets import papers, slips, texts
 from exam_desk.sheets.session_page import Page
 from exam_desk.words import FEATURES, plain
 
@@ -322,7 +322,7 @@ class RandomOffice:
         names.append(("clashes", session))
         wanted = {name: lines for name in names
                   if len(lines := self.sheet(self.path, *name)) > 2 or name[0] == "clashes"}
-        found = printing.written(reading, session_row(reading.rows, session))
+        found = texts.written(reading, session_row(reading.rows, session))
         equal(list(found.items()), list(wanted.items()), "print-session", found)
 
     def reasons(self, reading, session):

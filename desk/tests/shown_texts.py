@@ -35,7 +35,8 @@ CURES = [cure.removesuffix(typed.OF_A_SHEET) for cure in mistakes.CURES.values()
 OPENED = [cells.PASSWORD, opening.NO_UTF_8, opening.NO_WORKBOOK, opening.OLD_FORM,  # why a file is not read
           backups.NO_OFFICE, backups.SEVERAL, backups.ALONE, backups.BROKEN, backups.TOO_LARGE]
 OF_COMMANDS = re.compile("header|column|first line|UTF-16|split it|^these are|file is empty|access code;|SELECT|NOTE|"
-                         "office (take|withdraw)|--codes|looked for|file fault|refused|chmod")  # no page shows these
+                         "office (take|withdraw|read)|--codes|looked for|file fault|refused|chmod|seven names|"
+                         r"^\{0\}(:| line)")  # no page shows these
 
 
 def sentences(module):

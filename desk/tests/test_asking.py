@@ -261,12 +261,23 @@ class Held(unittest.IsolatedAsyncioTestCase):
         self.assertEqual((self.hold.over.is_set(), self.hold.opened.is_set()), (False, True))
 
     async def test_one_client_too_many_is_answered_before_it_asks(self):
-        self.hold.most_clients = 0
+        self.gate.set()
+        self.open()
         async with await asyncio.start_server(self.hold.take, "127.0.0.1", 0) as door:
-            reader, writer = await asyncio.open_connection(*door.sockets[0].getsockname())
-            self.assertEqual(await reader.read(), hold.FULL)
-            writer.close()
-        self.assertEqual((self.hold.clients, self.hold.asked), (0, 0))
+            for most, said in ((0, hold.FULL), (1, ANSWER)):
+                self.hold.most_clients = most
+                reader, writer = await asyncio.open_connection(*door.sockets[0].getsockname())
+                writer.write_eof()
+                self.assertEqual(await reader.read(), said)
+                writer.close()
+        self.assertEqual((self.hold.clients, self.hold.asked), (0, 1))
+
+    async def test_a_connection_ends_whether_its_client_takes_the_answer_or_not(self):
+        self.hold.most_clients = 0
+        for fault, last in ((None, ["write_eof", "close"]), (TimeoutError, ["transport.abort", "close"])):
+            writer = mock.Mock(drain=mock.AsyncMock(side_effect=fault))
+            await self.hold.take(mock.Mock(), writer)
+            self.assertEqual([call[0] for call in writer.mock_calls], ["write", "drain", *last])
 
     async def test_no_answer_in_time_begins_anew(self):
         with mock.patch("exam_desk.hold.ANSWER_SECONDS", 0.2), mock.patch("exam_desk.hold.GAP_SECONDS", 1):

@@ -278,7 +278,7 @@ class Private(Beside):
         place = os.path.join(self.folder, "place")
         os.mkdir(place)
         for name, first in (("exam_desk.private.claim", lambda folder: folder),
-                            ("fcntl.flock", lambda file: os.path.dirname(os.readlink(f"/proc/self/fd/{file}")))):
+                            ("exam_desk.turns.try_lock", lambda lock: os.path.dirname(lock.name))):
             module, _, function = name.rpartition(".")
             real, calls = getattr(sys.modules[module], function), []
 
@@ -348,6 +348,9 @@ class Log(Beside):
         for command, is_one in ("lodge", False), ("withdraw", True):
             logbook.write(self.value, [command, "0001051", "MON-AM", "hall", "PC1", "a draught"], logbook.BEGINS, "")
             self.assertEqual(logbook.unfinished(self.value) is not None, is_one)
+        for status in (logbook.BEGINS, 0):  # of another office, in the place of the one that is gone
+            logbook.write(self.value, ["init"], status, "")
+        self.assertIsNone(logbook.unfinished(self.value))
 
     def test_a_copy_says_what_it_is_from_before(self):
         """In the words of the log, cut between two words where they are many; the name of its folder has fewer letters."""
@@ -502,7 +505,8 @@ class Faults(Beside):
     def test_another_database(self):
         for statement, said in (("DROP TABLE office", "holds no office; `office init` makes one"),
                                 ("UPDATE office SET version = 9", "holds no office that this program reads"),
-                                ("DROP TABLE standing", "holds no office that this program reads")):
+                                ("DROP TABLE standing", "holds no office that this program reads"),
+                                ("ALTER TABLE entry RENAME live TO alive", "office.db: no such column: live\n")):
             shutil.copy2(os.path.join(self.made, "office.db"), self.path)
             self.change(statement)
             self.assertIn(said, self.refused("summary"))

@@ -1,5 +1,6 @@
 """Changes of several steps: tried on a copy, carried out whole or not at all, and what is said after a kill."""
 import contextlib
+import itertools
 import os
 import re
 import shutil
@@ -488,6 +489,14 @@ class Killed(Changing):
         self.assertEqual(logbook.broken_off(self.value).command, "withdraw 0001000 MA-1")
         with mock.patch("exam_desk.turns.is_taken", lambda *_: logbook.write(self.value, words, 0, "withdrawn")):
             self.assertIsNone(logbook.broken_off(self.value))
+
+    def test_a_list_that_is_killed_behind_many_rows_is_broken_off(self):
+        """As many rows as a fast machine does in one turn."""
+        logbook.write(self.value, ["withdraw --list all.csv"], logbook.BEGINS, "")
+        with open(os.path.join(self.desk, "log"), "a", encoding="utf-8") as log:
+            for number, (status, answer) in itertools.product(range(5000), (("step", ""), ("0", "withdrawn"))):
+                log.write(f"2027-05-01 10:00:00\ttester\twithdraw {number:07} MA-1\t{status}\t{answer}\n")
+        self.assertEqual(logbook.broken_off(self.value).command, "withdraw --list all.csv")
 
     def test_ctrl_c_in_a_single_change(self):
         """It comes before the program has done anything, and behind its change."""

@@ -10,7 +10,7 @@ from unittest import mock
 import sample
 import big_files
 import random_files
-from exam_desk import checking, files, mistakes, refusals, snapshot
+from exam_desk import files, mistakes, refusals, snapshot
 from exam_desk.office import Trouble
 
 TRIES, SEED = 150, 20261128
@@ -188,7 +188,7 @@ class Verdicts(sample.SampleSchool):
         with tempfile.TemporaryDirectory(dir=self.folder) as folder:
             for kind, text in texts.items():
                 self.write(os.path.join(folder, f"{kind}.csv"), f"{','.join(files.HEADERS[kind])}\n{text}")
-            return checking.check_folder(self.value, folder)
+            return mistakes.check_folder(self.value, folder)
 
     def test_all_mistakes_and_notes_are_counted(self):
         """Of seven on a column five are shown. What the program alone refuses is a mistake, too."""
@@ -237,7 +237,7 @@ class Words(unittest.TestCase):
             found = mistakes.Found(5)
             for line in range(2, 7 + more):
                 found.add(line, "minutes", field=b"x")
-            lines = [*checking.lines_on("c.csv", found, "")]
+            lines = [*mistakes.lines_on("c.csv", found, "")]
             self.assertEqual((5 + more, last), (len(lines), lines[-1]))
         self.assertEqual("a whole number from 1 to 600", mistakes.cure("minutes", 199 * b"0" + b"90").text)  # a long value has none
 
@@ -253,9 +253,13 @@ class Words(unittest.TestCase):
                            (b"session,date,start\n", "session,date,start"),
                            (b"number,name,code,and,many,more,columns,of,the,export\n", "number,name,code,and,many,more,columns,of,the,export")):
             self.assertEqual(self.mistakes_in("candidates", text), ([self.no_header("number,name,code", line)], []))
+            self.assertEqual([1], [each.line for each in mistakes.looked_through("candidates", text, mistakes.Known())[0]])
 
     def no_header(self, header, line):
         return f"the first line must be {header}, and is '{line}'; `office mend` reads files with other headers, commas or letters"
+
+    def test_a_long_value_is_shown_in_part(self):
+        self.assertEqual((f"'{60 * 'x'}'", f"'{57 * 'x'}..'"), (files.shown(60 * b"x"), files.shown(61 * b"x")))
 
     def test_rows_that_are_wrong_as_a_whole(self):
         for row, said in (
@@ -296,7 +300,7 @@ class Words(unittest.TestCase):
         text = b"number,name,code\n0001000,Ada Lin,\n0001017,Ada Lin,\n"
         found, notes = mistakes.looked_through("candidates", text, mistakes.Known())
         self.assertEqual(([*found], [*notes], found.count, bool(found)), ([], [], 0, True))
-        self.assertEqual([*checking.lines_on("c.csv", found, "")], [
+        self.assertEqual([*mistakes.lines_on("c.csv", found, "")], [
             "c.csv: 2 candidates have no access code; `office take .. --codes` fills them in; without them an import "
             "refuses the file"])
         for empty in (b" ", "\u00a0\u200b".encode()):
@@ -321,8 +325,10 @@ class Words(unittest.TestCase):
             "has a space at an end, or a sign that no keyboard writes: is it meant?"])
 
     def test_names_that_nobody_typed_so(self):
-        for text in "Ada ", " Ada", "Ada\u202e", "A\u00a0B", "A\u2007B", "A\u202fB", *(f"O{quote}Neil" for quote in "“”„‟‘’‚‛"):
+        for text in "Ada ", " Ada", "Ada\u202e", "A\u00a0B", "A\u2007B", "A\u202fB", "A\u200bB", "A\u00adB", "A\u2060B", \
+                "A\ufeffB", *(f"O{quote}Neil" for quote in "“”„‟‘’‚‛"):
             self.assertTrue(mistakes.note_on("title", text.encode()).startswith("has a space at an end, or a sign"), ascii(text))
+        self.assertEqual(mistakes.note_on("name", "علی\u200cرضا".encode()), "")
         for text in "FranÃ§ois", "Ã Bo", "Ã\u00a0", "Â°C", "Oâ€™Neil", "ÅŸahin", "MiÅ‚osz", "GÄ™sior", "Å\u0081", "A\ufffdB":
             self.assertEqual("looks like letters that were read in a wrong encoding", mistakes.note_on("name", text.encode()), text)
         for text in "O'Neil", "Zoë Ångström", "Å i Lofoten", "JOÃO", "PÄÄSKYNEN", "ÅÄÖ", "Ada  Lin", "\u05d0\u05d1", "Â", "a-b. (c)":
@@ -401,6 +407,15 @@ class Words(unittest.TestCase):
         halls = b"hall,title,features\n" + b"a\n" * 100_001
         mistakes.looked_through("halls", halls, known, 5)
         self.assertIsNone(known.keys["halls"])
+
+    def test_of_a_file_that_is_too_long_not_all_rows_are_known(self):
+        """So nothing that refers to them is a mistake."""
+        known = mistakes.Known()
+        with mock.patch("exam_desk.files.MOST_BYTES", 41):
+            self.assertEqual((["more than 41 bytes: split it"], []), self.mistakes_in(
+                "halls", b"hall,title,features\nA,Hall A,-\nB,Hall B,-\n", known))
+        self.assertEqual(([], ["no halls are known, so these are not compared", "no sessions are known, so these are not compared"]),
+                         self.mistakes_in("openings", b"session,hall,desks,until,reserved\nS,C,1,12:00,no\n", known))
 
 
 class Big(unittest.TestCase):

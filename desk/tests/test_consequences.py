@@ -102,9 +102,13 @@ class Kinds(unittest.TestCase):
         return Office("nowhere.db", "examoffice", datetime.date.today, "tester")
 
     def test_a_row_for_a_spreadsheet(self):
-        """No name and no title is a formula; a title that is another is that of now."""
+        """No name, no title and no code is a formula; a title that is another is that of now."""
         row = telling.csv_row(change(name="=1", old_name="@2"), ({"MA-1": "+3"}, {"A": "-4"}))
         self.assertEqual([row[3], *row[-4:-1]], ["'=1", "'+3", "'-4", "'@2"])
+        old, new = (SITTING._replace(paper=paper) for paper in ("-A1", "-A2"))
+        row = dict(zip(telling.HEADER, telling.csv_row(change(old=old, new=new, session="-S1"), ({}, {}))))
+        self.assertEqual([row[name] for name in ("session", "old paper", "paper", "date", "desk")],
+                         ["'-S1", "'-A1", "'-A2", new.date, str(new.desk)])
         moments = [sqlite3.connect(":memory:") for _ in range(2)]
         for title, file in zip(("Old", "New"), moments):
             self.addCleanup(file.close)

@@ -2,10 +2,12 @@
 there is none, or where it cannot be read, too."""
 import glob
 import html
+import io
 import os
 import pathlib
 import re
 import unittest
+import zipfile
 
 from desk_client import MARK, DeskSchool
 from exam_desk import snapshot
@@ -39,6 +41,9 @@ class Backups(DeskSchool):
 class TestBroughtBack(Backups):
     def test_it_is_looked_at_and_put_back_and_that_is_taken_back_too(self):
         before, (name, content) = snapshot.name_now(self.value), self.handed_out()
+        with zipfile.ZipFile(io.BytesIO(content)) as archive:  # some years old
+            content = zipped({zipfile.ZipInfo(part.filename, (2020, 1, 2, 3, 4, 6)): archive.read(part)
+                              for part in archive.infolist()})
         self.office("withdraw", "0001051", "PH-1")
         self.office("lodge", "0001119", "MON-AM", "arrangement", "quiet", "0", "")
         later = snapshot.name_now(self.value)
@@ -47,7 +52,7 @@ class TestBroughtBack(Backups):
         [(person,)] = self.rows("SELECT name FROM candidate WHERE number = 1119")
         lost = f"appeal 0001119 D1 for MON-AM : open -> gone ( {person} )"
         for said in (name, "What would change", "1 would join a session", f"lost: tick each {lost}",
-                     "What was done since", "withdraw 0001051 PH-1", f"{name} a backup of 20"):
+                     "What was done since", "withdraw 0001051 PH-1", f"{name} a backup of 2020-01-02 03:04:06 , brought on 20"):
             self.assertIn(said, words)
         self.assertIn(f"Einspruch D1 von 0001119 für MON-AM: offen → nicht mehr da ({person})",
                       re.sub("<.*?>", "", self.browser.ask("GET", page, headers={"Accept-Language": "de"})[1]))

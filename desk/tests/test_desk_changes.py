@@ -31,7 +31,8 @@ class TestRehearsal(DeskSchool):
         self.assertEqual(effects(text), promised)
         lost = len(before) - len(self.seats())
         self.assertEqual(promised["loses"], (lost, lost))
-        _, told = self.browser.ask("GET", page + "/told.csv")
+        answer, told = self.browser.ask("GET", page + "/told.csv")
+        self.assertEqual(answer.headers["Content-Type"], "text/csv; charset=utf-8")
         self.assertEqual(told.count("\n") - 1, sum(sittings for _, sittings in promised.values()))
         self.assertIn("(ab, desk)\tclose-hall MON-AM GYM\t0\tclosed", self.log())
 
@@ -198,7 +199,14 @@ class TestRehearsal(DeskSchool):
         self.assertIn("go back to the form", self.browser.words(page))
         page, _ = self.browser.post("/propose/name", "/candidates/1051", number="0001051", name="Di Marsh")
         self.browser.post(page + "/do", page)
-        self.assertEqual(self.rows("SELECT name, code FROM candidate WHERE number = 1051"), [("Di Marsh", "OTHERCODE1")])
+        known = self.rows("SELECT name, code FROM candidate WHERE number = 1051")
+        self.assertEqual(known, [("Di Marsh", "OTHERCODE1")])
+        page, _ = self.browser.post("/propose/code", "/candidates/1051", number="0001051")  # and the other way round
+        self.office("name", "0001051", "Di Kay")
+        self.browser.post(page + "/do", page)
+        self.assertIn("go back to the form", self.browser.words(page))
+        known = self.rows("SELECT name, code FROM candidate WHERE number = 1051")
+        self.assertEqual(known, [("Di Kay", "OTHERCODE1")])
 
     def test_two_tabs(self):
         pages = [self.browser.post("/propose/withdraw", "/candidates/1051", number="0001051", paper=paper)[0]
@@ -213,6 +221,7 @@ class TestRehearsal(DeskSchool):
         self.office("lodge", "0001119", "MON-AM", "arrangement", "quiet", "0", "")
         self.browser.post(page + "/do", page)
         self.assertIn("What changed", self.browser.words(page))
+        self.assertNotIn("Next open appeal", self.browser.words(page))  # that is for who decides
 
     def test_values_are_no_options(self):
         before = self.seats()
@@ -244,6 +253,8 @@ class TestSecondSitting(DeskSchool):
         self.assertNotIn("0001051", self.browser.words("/clashes?session=MON-AM"))
         self.assertEqual(self.browser.ask("GET", self.PAGE)[0].status, 302)
         self.assertIn("Take the second sitting back", self.browser.words("/candidates/1051"))
+        (other,), *_ = self.rows("SELECT number FROM entry WHERE paper = 'LAT' AND number <> 1051")  # who has none
+        self.assertNotIn("Take the second sitting back", self.browser.words(f"/candidates/{other}"))
         self.assertNotIn('value="LAT-2"', self.browser.get("/candidates/1000"))  # it has a form of its own
         page, _ = self.browser.post("/propose/second-back", "/candidates/1051", number="0001051", paper="LAT")
         text = self.browser.words(page)
@@ -326,6 +337,10 @@ class TestAppeals(DeskSchool):
         for ref, is_late in ("D1", True), ("D2", False):  # 7 June is the last day to decide on TUE-AM
             words = self.browser.words(f"/appeals/1051/{ref}")
             self.assertEqual("The day of the session has come" in words, is_late, ref)
+            self.assertIn("Other appeals 1 ", words)
+            words = self.browser.words(f"/appeals/1051/{ref}/if-granted")
+            self.assertEqual("It cannot be granted: the day of the session has come, so it is too late" in words, is_late, ref)
+        self.assertIn("Other appeals none", self.browser.words("/appeals/1119/D1"))
         page, _ = self.browser.post("/propose/decide", "/appeals/1051/D2", number="0001051", ref="D2", outcome="refused")
         self.browser.post(page + "/do", page)
         self.assertRegex(self.browser.get(page), "/appeals/1119/D1\">Next open appeal: .*TUE-AM")
@@ -469,7 +484,7 @@ class TestBesideKeep(DeskSchool):
         self.assertRegex(text, 'name="port"[^>]*aria-invalid="true"')
         self.browser.post("/office/keep", "/office", what="start", port=str(port))
         self.addCleanup(self.run_office, "keep", "stop")
-        self.assertIn(f"127.0.0.1 {port}", self.browser.words("/office"))
+        self.assertRegex(self.browser.get("/office"), f'<p class="said good">[^/]*127.0.0.1 {port}')
         _, text = self.browser.post("/office/keep", "/office", 422, what="start", port=str(port))
         self.assertIn("candidates are served already; the page Office says where", text)
         stop, answers = threading.Event(), []

@@ -24,6 +24,11 @@ with mock.patch.multiple(uploads, MOST_CELLS=5, text=lambda words, **values: wor
     for name, content in ("d.csv", b"12345"), ("e.csv", b"123456"):
         uploads.take(upload, name, content, 5)
     print([name for name, _ in upload.books], *map(str, upload.notes), sep="\\n")
+    upload.books, upload.notes = [("f.csv", b"a;b\\n1;2\\n")], []
+    with mock.patch.multiple(uploads, view=mock.MagicMock(), said=str,
+                             read_book=mock.Mock(side_effect=uploads.Trouble("too much"))):
+        uploads.read_books(upload)
+    print(*map(str, upload.notes), sep="\\n")
 """
 HALLS = b"hall,title,features\nR20,Room,-\n"
 NEW = b"number,name,code\n12001,Nadia,K4WBN7RTQD\n0012008,Tom,\n"
@@ -45,11 +50,12 @@ class Uploads(DeskSchool):
 class TestFiles(Uploads):
     def test_cells_of_an_upload_that_are_kept_together(self):
         """They are as many as those of one workbook: what goes beyond is named, and the others are read. A file may have
-        as many bytes as an import takes."""
+        as many bytes as an import takes. What nobody can read together says why."""
         done = subprocess.run([PYTHON, "-c", KEPT_TOGETHER], cwd=DESK.parent, capture_output=True, text=True, check=True,
                               env={**os.environ, "PYTHONPATH": str(DESK)})
         self.assertEqual(done.stdout, "['a', 'c']\n<bdi>b.csv</bdi>: it is too large beside the others: bring it alone\n"
-                                      "['d.csv']\n<bdi>e.csv</bdi>: it has more than {most} bytes: split it\n")
+                                      "['d.csv']\n<bdi>e.csv</bdi>: it has more than {most} bytes: split it\n"
+                                      "<bdi>f.csv</bdi>: too much\n")
 
     def test_mistakes_are_corrected_and_the_import_is_rehearsed(self):
         page = self.upload(("../../etc/passwd", NEW), ("x.csv", b"number,paper\n12001,EN-1\n0012008,EN1\n,\n"))
@@ -84,6 +90,9 @@ class TestFiles(Uploads):
             self.browser.post(page + "/correct", page, **values)
             self.assertIn(f"<title>{title}", self.browser.get(page))
         self.assertIn("<title>Nothing could be taken: ", self.browser.get(self.upload(("a.pdf", b"x"))))
+        for nothing in ((), (("", b""),)):
+            _, text = self.browser.send("/files", "/files", "files", *nothing, status=422)
+            self.assertIn('<a href="#at-upload-files">Choose files</a>: Choose the files first.', text)
 
     def test_a_candidate_of_the_office_keeps_the_code(self):
         (number,), (other,) = self.rows("SELECT printf('%07d', number) FROM candidate ORDER BY number LIMIT 2")
@@ -246,7 +255,7 @@ class TestFiles(Uploads):
                 if name.endswith(".zip"):
                     break
         for hidden in ("._halls.csv", b"\0\5\x16\7"), ("~$school.xlsx", b"\3Ada" + bytes(160)):
-            self.assertEqual(self.upload(hidden), "/files")
+            self.browser.send("/files", "/files", "files", hidden, status=422)  # as if nothing were chosen
         page = self.upload(("all.zip", zipped({"__MACOSX/._halls.csv": b"\0\5", ".DS_Store": b"\0", "halls.csv":
                                                b"hall,title,features\nR20,Room,-\n"})))
         self.assertNotIn('class="said', self.browser.get(page))
@@ -563,7 +572,6 @@ class TestFiles(Uploads):
         self.assertNotIn("a.zip : it holds", text)
         self.assertIn("Nothing could be taken", text)
         self.assertIn("none.zip : it holds 0 files", self.browser.words(self.upload(("none.zip", zipped({})))))
-        self.assertEqual(self.upload(), "/files")
         broken = bytearray(zipped({"a.csv": b"x" * 99}, zipfile.ZIP_LZMA))
         broken[-80] ^= 255
         self.assertIn("bad.zip : it cannot be read: Corrupt", self.browser.words(self.upload(("bad.zip", bytes(broken)))))
@@ -653,7 +661,11 @@ class TestBegin(Uploads):
             answer, _ = self.browser.ask("GET", path)
             self.assertEqual((answer.status, answer.headers["Location"]), (303, self.browser.prefix + "/"), path)
         self.browser.post("/files", "/", dates="")
+        os.mkdir(self.path)
+        self.assertIn("the database cannot be used now", self.browser.post("/init", "/", 409)[1])
+        os.rmdir(self.path)
         self.browser.post("/init", "/")
+        self.browser.post("/init", "/office")  # a page from before: the office stays
         for path in ("/", "/files", "/candidates", "/appeals", "/clashes", "/office", "/candidates?q=x"):
             self.browser.get(path)
         self.assertNotIn("Look also for", self.browser.words("/"))  # there is no session

@@ -68,7 +68,7 @@ for seconds in (5 * 3600, 5 * 3600, 8 * 3600 + 1):
 print(*found)
 """
 FAULTS = MAKE + """
-import errno, logging, os
+import errno, logging, os, sqlite3
 app.logger.setLevel(logging.CRITICAL)
 app.extensions['guard'].visits = {guard.digest('secret'): guard.Visit('ab', 'x')}
 client = app.test_client()
@@ -76,7 +76,8 @@ client.set_cookie('localhost', 'desk', 'secret')
 def fail():
     raise fault
 app.view_functions['season.page'] = fail
-for fault in (*(OSError(each, os.strerror(each), '/there') for each in (errno.ENOSPC, errno.EACCES)), KeyError('x')):
+for fault in (*(OSError(each, os.strerror(each), '/there') for each in (errno.ENOSPC, errno.EACCES)), KeyError('x'),
+              OSError('broken off'), sqlite3.DatabaseError('database disk image is malformed')):
     answer = client.get('/')
     print(answer.status_code, ' '.join(answer.text.split()))
 """
@@ -388,10 +389,12 @@ class TestIdle(unittest.TestCase):
 class TestFaults(unittest.TestCase):
     def test_a_full_disk_says_where_room_can_be_made_and_another_fault_its_place(self):
         done = subprocess.run([PYTHON, "-c", FAULTS, DESK], capture_output=True, text=True, check=True)
-        full, other, mistake = done.stdout.splitlines()
+        full, other, mistake, *nameless = done.stdout.splitlines()
         self.assertRegex(full, "^507 .*The disk is full: make room, for example in the folder .*/days")
         self.assertRegex(other, "^500 .*>/there: Permission denied<")
         self.assertRegex(mistake, "^500 .*the desk is wrong here; the office is as the log says")
+        for answer, said in zip(nameless, ("broken off", "database disk image is malformed"), strict=True):
+            self.assertRegex(answer, f"^500 .*>{said}<")
 
     def test_a_command_leads_to_the_page_that_does_what_it_does(self):
         done = subprocess.run([PYTHON, "-c", SAID, DESK], capture_output=True, text=True, check=True)

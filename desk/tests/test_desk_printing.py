@@ -1,6 +1,7 @@
 """Papers at the desk in a browser, and what it keeps beside the office: each is that of the commands."""
 import contextlib
 import html
+import pathlib
 import re
 import sqlite3
 import unittest
@@ -26,6 +27,7 @@ class TestPrinting(DeskSchool):
             options = ["--desks"] if sheet == "slips" else []
             self.assertEqual(self.browser.get(f"/sessions/MON-AM/print/{sheet}"),
                              self.office(sheet, "MON-AM", *options), sheet)
+        self.assertEqual(self.browser.get("/sessions/MON-AM/seats.csv"), self.office("slips", "MON-AM", "--csv", "--desks"))
         self.browser.get("/sessions/MON-AM/print/nothing", 404)
         self.browser.get("/sessions/MON-AM/print/doors?hall=NONE", 404)
 
@@ -36,7 +38,8 @@ class TestPrinting(DeskSchool):
         links = re.findall(r'href="[^"]*(/sessions/MON-AM/print/chart\?hall=(\w+))"', self.browser.get(page))
         self.assertEqual([hall for _, hall in links], seated)
         link, first = links[0]
-        self.assertEqual(re.findall(r'name="across-(\w+)"', self.browser.get(link)), [first])
+        self.assertEqual(re.findall(r'name="(across|of)(?:-|" value=")(\w+)"', self.browser.get(link)),
+                         [("of", first), ("across", first)])
         for across in ("0", "101", "x", ""):
             _, text = self.browser.post(draw, link, 422, chart="1", hall=[first], of=[first],
                                         **{f"across-{first}": across, f"running-{first}": "down"})
@@ -107,6 +110,9 @@ class TestPrinting(DeskSchool):
         self.assertIn("AULA: Desks in a row: 6, along the rows → 4, down and up", found)
         self.assertNotIn("not as on paper", found)
         self.assertIn("The papers of MON-AM are out of date: AULA", self.browser.words("/?piece"))
+        path = pathlib.Path(self.desk, "notebook", "printed.MON-AM.json")  # of a backup that somebody made by hand
+        path.write_text(path.read_text("ascii").replace('"6 across"', '"6<b>"'), "ascii")
+        self.assertIn("AULA: Desks in a row: 6<b>, → 4, down and up", self.browser.words(self.PRINTED + "?piece"))
 
     def test_sessions_go_by_day_and_start(self):
         """In what a change did, in the form that lodges an appeal, in what the season asks for, and beside a session."""
@@ -212,10 +218,12 @@ class TestPrinting(DeskSchool):
             self.assertRegex(text, 'name="note"[^>]*aria-invalid="true"')
         self.assertEqual(self.office("notes"), f"0001051 Di Berg: {note}\n")
         _, text = self.browser.post("/candidates/1051/note", "/candidates/1051", 422, note="mine", was="")
-        self.assertIn("somebody has changed it meanwhile", text)
+        self.assertIn(f"somebody has changed it meanwhile; it says: <bdi>{note}</bdi>", html.unescape(text))
         self.assertIn(f'name="was" value="{note}"', html.unescape(text))
         self.browser.post("/candidates/1051/note", "/candidates/1051", note="", was=note)
         self.assertEqual(self.office("notes"), "")
+        _, text = self.browser.post("/candidates/1051/note", "/candidates/1051", 422, note="mine", was=note)
+        self.assertIn("somebody has changed it meanwhile; it says: <bdi>–</bdi>", text)
         self.assertIn("None.", self.browser.words("/candidates/notes"))
         self.browser.post("/candidates/9999999/note", "/candidates/1051", 404, note="x")
         self.office("notes", self.write("notes.csv", "number,text\n0001051,\u202erest\n"))

@@ -12,7 +12,7 @@ import unittest
 from unittest import mock
 
 from desk_client import SmallSchool, effects
-from exam_desk import changing, reasons, remedies, second_sitting
+from exam_desk import changing, reasons, second_sitting
 from exam_desk.reading import Reading
 from exam_desk.words import clock
 from random_offices import RandomOffice
@@ -51,8 +51,8 @@ class TestWhatCouldHelp(SmallSchool):
         with Reading(self.value) as reading:
             why, sheet = reasons.compared(reading, "S1")
             for most, found in ((6, 3), (5, 0)):
-                with mock.patch.object(remedies, "MOST_PAIRS", most):
-                    self.assertEqual(len(remedies.best(reading.rows, why, sheet)), found)
+                with mock.patch.object(reasons, "MOST_PAIRS", most):
+                    self.assertEqual(len(reasons.best(why, sheet)), found)
 
     def test_others_move_on_to_it(self):
         """Only A suits who needs step-free. Who sits there could sit in B, were that open for longer."""
@@ -180,7 +180,7 @@ class TestAtRandom(SampleSchool):
             for session in made.sessions:
                 with Reading(made.office) as reading:
                     why, sheet = reasons.compared(reading, session)
-                    found = [*remedies.remedies(reading.rows, why, sheet)]
+                    found = [*reasons.remedies(why, sheet)]
                 for each in found:
                     self.assertGreater(self.gained(made.office, session, each.opening), 0, (seed, session, each))
                 for each in why.openings:

@@ -47,6 +47,17 @@ class TestArrangements(DeskSchool):
                                     kind="arrangement", wanted_extra="17", needs=["screen", "quiet"])
         self.assertIn("arrangement screen, quiet, 17 % extra time", self.words(page))
 
+    def test_a_name_at_a_desk_is_the_surname_and_is_cut_at_its_end(self):
+        names = {"Gisela von der Heide": "Heide", "von der Heide, Gisela": "von der H…", "François Le Goff": "Goff",
+                 "Le Goff": "Goff", "Mononym": "Mononym", "Ann Lettersten": "Lettersten", "Ann Lettereleven": "Letterele…"}
+        seated = self.rows("SELECT printf('%07d', number), code FROM candidate JOIN seat USING (number) "
+                           "WHERE session = 'MON-AM' AND hall = 'GYM'")
+        rows = "".join(f'{number},"{name}",{code}\n' for (number, code), name in zip(seated, names))
+        self.office("import", "candidates", self.write("candidates.csv", f"number,name,code\n{rows}"))
+        drawn = dict(re.findall(r'<title>Desk \d+: (.*?), \d{7}.*?<text class="nm"[^>]*>([^<]*)<',
+                                self.browser.get("/sessions/MON-AM/halls/GYM")))
+        self.assertEqual({name: drawn[name] for name in names}, names)
+
 
 class TestLodging(DeskSchool):
     def test_halls_and_papers_are_chosen(self):

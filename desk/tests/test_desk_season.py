@@ -102,11 +102,16 @@ class TestWhatNeedsAPerson(DeskSchool):
         self.browser.get("/sessions/HL")
         person = self.browser.get("/candidates/1000")
         self.assertEqual(re.findall("also (?:<bdi>)?(.*?)(?:</bdi>)?, at the same time", person), ["HL-1", "MA-1"])
+        self.end()
+        self.environment["TODAY"] = "2027-06-08"  # the day after
+        self.start()
+        self.assertNotIn("at one time:", self.browser.words("/?piece"))
 
     def test_of_whom_nobody_noted_that_they_were_absent(self):
         """MON-AM and MON-PM are on 7 June 2027, TUE-AM a day later."""
         begin = "Nobody has noted yet who was absent: "
         self.assertNotIn(begin, self.browser.words("/"))
+        self.office("import", "sessions", self.write("new.csv", "session,date,start\nNOBODY,2027-06-07,08:00\n"))
         for today, said in (("2027-06-08", "MON-AM, MON-PM"), ("2027-06-08", "MON-PM"), ("2027-06-15", "TUE-AM")):
             self.end()
             self.environment["TODAY"] = today
@@ -124,6 +129,20 @@ class TestWhatNeedsAPerson(DeskSchool):
         urgent = [(["late", "now", "soon", "note"].index(level), day) for level, day in found]
         self.assertEqual(urgent, sorted(urgent))
         self.assertGreater(len(self.links("/?piece")), len(self.links("/")))
+        for begin, link in (("1 open appeal for MON-AM: 1 hall", "/appeals#MON-AM"), (
+                "Candidates cannot ask for their seats: the office is not served", "/office#serve"),
+                ("2 candidates without a desk in MON-PM", "/sessions/MON-PM#short")):
+            self.assertEqual(self.line("/", begin), ("", link))
+        new = [f"X{number}" for number in range(10, 20)]  # sessions without a hall
+        for kind, header, row in (("sessions", "session,date,start", "{0},2027-06-09,09:00"),
+                                  ("papers", "paper,title,session,minutes,requires", "{0},x,{0},60,-"),
+                                  ("entries", "number,paper", "0001000,{0}")):
+            lines = [header, *map(row.format, new), ""]
+            self.office("import", kind, self.write(f"{kind}.csv", "\n".join(lines)))
+        shown, _, folded = re.sub("</?bdi>", "", self.browser.get("/")).partition('<details class="list"><summary>')
+        counts = [text.count('<span class="what">') for text in (shown, folded)]
+        self.assertEqual((counts[0], sum(counts)), (12, 16))
+        self.assertTrue(folded.startswith(f"and {counts[1]} more</summary>"))
         self.end()
         self.environment["TODAY"] = "2027-06-03"  # three days before the last one to decide on MON-AM
         self.start()
@@ -141,8 +160,8 @@ class TestDays(DeskSchool):
         return self.browser.get("/")
 
     def test_the_last_days_to_lodge_of_two_weeks(self):
-        for today, ends in (("2027-05-20", {"2027-05-28": ["MON-AM", "MON-PM"], "2027-05-29": ["TUE-AM"],
-                                            "2027-06-02": ["MON-AM", "MON-PM"], "2027-06-03": ["TUE-AM"]}),
+        for today, ends in (("2027-05-19", {"2027-05-28": ["MON-AM", "MON-PM"], "2027-05-29": ["TUE-AM"],
+                                            "2027-06-02": ["MON-AM", "MON-PM"]}),  # the day after is the 15th
                             ("2027-06-05", {"2027-06-05": ["MON-AM", "MON-PM"], "2027-06-06": ["TUE-AM"]}),
                             ("2027-06-07", {})):
             card = self.on(today).partition('id="ends"')[2]

@@ -6,8 +6,11 @@ import os
 import re
 import socket
 import unittest
+from unittest import mock
 
 import sample
+import command
+from commands import serving
 from desk_client import DeskSchool
 from exam_desk import turns
 
@@ -21,6 +24,20 @@ class Port(sample.SampleSchool):
             self.assertEqual(self.refused("desk", "--port", str(port)),
                              f"office: port {port} of 127.0.0.1 cannot be had: Address already in use; name another with "
                              "--port\n")
+        for port in "65536", "-1":
+            done = self.run_office("desk", "--port", port)
+            self.assertEqual((done.returncode, done.stderr.split("\n")[-2]), (
+                2, f"office desk: error: {port} is no port: a number from 1 to 65535"))
+
+    def test_a_python_without_what_it_needs(self):
+        self.write("waitress.py", "raise ModuleNotFoundError('none', name='waitress')")
+        self.assertRegex(self.refused("desk", PYTHONPATH=self.folder),
+                         "^office: the desk in a browser needs python3-waitress: `apt install python3-flask ")
+        words = ["--port", "8800"]
+        with (mock.patch("sys.executable", "/opt/python3"), mock.patch("sys.argv"), self.assertRaises(SystemExit),
+              mock.patch("os.execv", side_effect=SystemExit) as begun):
+            serving.desk(command.parser_of("desk", words))
+        begun.assert_called_once_with("/usr/bin/python3", ["/usr/bin/python3", command.OFFICE, "desk", *words])
 
     def test_a_desk_that_has_no_place_yet(self):
         with turns.lock_file(self.value, LOCK) as lock:

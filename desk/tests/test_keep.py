@@ -37,6 +37,8 @@ class Kept(sample.KeptSchool):
         self.assertRegex(self.office("keep", "status"),
                          rf"^serving 127.0.0.1 {self.port}, for {sample.TODAY}, process \d+\n$")
         self.assertEqual(self.ask()[0], 200)
+        process = self.state()["pid"]
+        self.assertEqual(os.getsid(process), process)  # so no terminal ends it
         self.assertIn("serves this office already", self.refused("keep", "start", str(self.port)))
         self.assertIn("serves this office already", self.refused("serve", str(self.port)))
         self.assertIn("serves this office already", self.refused("keep", "run", str(self.port)))
@@ -51,7 +53,8 @@ class Kept(sample.KeptSchool):
         self.assertIn("does not run", self.refused("keep", "stop"))
 
     def test_as_many_days_are_kept_as_somebody_says(self):
-        self.assertEqual(self.run_office("keep", "start", "--days", "0").returncode, 2)
+        for words in ["start", "--days", "0"], ["begin"], []:
+            self.assertEqual(self.run_office("keep", *words).returncode, 2)
         self.office("keep", "stop")
         days = os.path.join(self.desk, "days")
         os.rename(os.path.join(days, sample.TODAY), os.path.join(days, "2027-04-01"))
@@ -198,6 +201,17 @@ class Beginning(sample.SampleSchool):
             keep = keeping.Keep(dataclasses.replace(self.value, program=program), "8080", lock)
             self.assertEqual(asyncio.run(keep.served()), "serve ended with status 1: refused 24")
         self.assertEqual([call.args[0] for call in say.mock_calls[1:]], ["first", "refused 24"])
+
+    def test_a_serve_that_nobody_can_watch_ends(self):
+        with (turns.lock_file(self.value, "keep.lock") as lock, mock.patch("exam_desk.keeping.say"),
+              mock.patch("exam_desk.asking.listens", side_effect=RuntimeError("no thread")),
+              self.assertRaisesRegex(RuntimeError, "^no thread$")):
+            asyncio.run(asyncio.wait_for(keeping.Keep(self.value, "8080", lock).served(), sample.PATIENCE))
+        self.assertIn('"state": "serve cannot be watched"', beside.text_of(self.path, "keep.lock"))
+
+    def test_which_words_are_a_port(self):
+        for word, port in (("1", "1"), ("8080", "8080"), ("065535", "65535"), ("65536", ""), ("0", ""), ("-1", ""), ("9" * 5000, "")):
+            self.assertEqual(keeping.place_of(word), port, word[:9])
 
     def test_a_full_journal_takes_no_line(self):
         with open(os.path.join(self.folder, "journal"), "w+", encoding="utf-8") as journal, mock.patch("sys.stderr", journal):

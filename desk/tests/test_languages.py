@@ -60,12 +60,6 @@ class TestTexts(unittest.TestCase):
             '/a/keep.log: <bdi lang="en">127.0.0.1 80 ist nicht zu haben: schon belegt; einen anderen Port nehmen',
             '<bdi lang="en">nothing of it'])
 
-    def test_a_name_at_a_desk_is_the_surname_and_is_cut_at_its_end(self):
-        shorten = SAY.replace("wording.said", "wording.short")
-        names = ["Gisela von der Heide", "von der Heide, Gisela", "François Le Goff", "Ada Lin", "Le Goff", "Mononym"]
-        done = subprocess.run([PYTHON, "-B", "-c", shorten, DESK, *names], capture_output=True, text=True, check=True)
-        self.assertEqual(done.stdout.splitlines(), ["Heide", "von der H…", "Goff", "Lin", "Goff", "Mononym"])
-
 
 class TestGerman(DeskSchool):
     def test_every_page(self):

@@ -258,7 +258,8 @@ class Lists(sample.SampleSchool):
                            ("number,name,code\n0000001,Bo,abc\n", check), ("", header)]:
             with self.assertRaisesRegex(Trouble, f"c.csv: {re.escape(said)}"):
                 coding.read(text.encode(), "c.csv")
-        self.assertEqual(coding.read(b"number,name,code\n0000001,Bo,\n", "c.csv"), [["0000001", "Bo", ""]])
+        for code, text in ("", b"\n"), ("ABCDEFGH", b'"ABCDEFGH'):  # a quote may stay open at the end
+            self.assertEqual(coding.read(b"number,name,code\n0000001,Bo," + text, "c.csv"), [["0000001", "Bo", code]])
 
     def codes_in(self, path):
         with open(path, encoding="utf-8-sig", newline="") as file:

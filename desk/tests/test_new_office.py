@@ -10,7 +10,7 @@ import desk_client
 import sample
 import test_changing
 from exam_desk import changing, notebook
-from exam_desk.running import NotStarted
+from exam_desk.office import Trouble
 
 LEFT = "notebook-of-an-office-before-"
 ASIDE = "NOTE what an office that is gone left here is set aside: absences of MON-AM, notes, now in "
@@ -69,7 +69,7 @@ class NewOffice(test_changing.Changing):
         refusing = self.write("program", "#!/bin/sh\necho refused 23 >&2\nexit 1\n")
         os.chmod(refusing, 0o700)
         self.assertEqual(changing.make_new(dataclasses.replace(self.value, program=refusing)).status, 1)
-        with self.assertRaises(NotStarted):
+        with self.assertRaisesRegex(Trouble, "there is no program /nowhere"):
             changing.make_new(dataclasses.replace(self.value, program="/nowhere"))
         self.assertEqual((sorted(os.listdir(self.desk)), self.said), (before, []))
 

@@ -8,12 +8,14 @@ import multiprocessing
 import os
 import pathlib
 import re
+import sqlite3
 import stat
 import subprocess
 import sys
 import tempfile
 import unittest
 from collections import Counter, defaultdict
+from contextlib import closing
 from unittest import mock
 
 import sample
@@ -67,7 +69,7 @@ class Notebook(unittest.TestCase):
 
     def test_nothing_is_there_at_first(self):
         self.assertEqual((notebook.school_name(self.office), notebook.notes(self.office)), ("", {}))
-        self.assertEqual((on_paper.noted(self.office, "S1").lines, notebook.absent(self.office, "S1")), ({}, None))
+        self.assertEqual((on_paper.noted(self.office, "S1")[0], notebook.absent(self.office, "S1")), ({}, None))
         self.assertFalse(self.place.exists())
 
     def test_notes(self):
@@ -107,10 +109,37 @@ class Notebook(unittest.TestCase):
         lines = {"0000001": Line("A", 1), "0000002": Line("A", 2), "0000003": Line("B", 1)}
         notebook.keep(self.office, "printed.S1", lambda _: {  # as earlier versions did
             "noted": ["root", 3, "2027-05-01 08:15"], **{number: [*line[:2], "0"] for number, line in lines.items()}})
-        self.assertEqual((on_paper.noted(self.office, "S1").lines, on_paper.noted(self.office, "S2").lines), (lines, {}))
+        self.assertEqual((on_paper.noted(self.office, "S1")[0], on_paper.noted(self.office, "S2")[0]), (lines, {}))
         now = {"0000002": Line("A", 1), "0000003": Line("B", 1), "0000004": Line("C", 1)}
         self.assertEqual([move.number for move in on_paper.moves(lines, now)], ["0000001", "0000002", "0000004"])
         self.assertEqual(on_paper.moves(lines, lines), [])
+        for name in "absent.S2", "absent.S1-2", "absent", "rows":
+            notebook.keep(self.office, name, lambda _: [] if name.startswith("absent") else {})
+        (self.place / "of another program").touch()
+        self.assertEqual([notebook.sessions_with(self.office, word) for word in ("absent", "printed", "notes")],
+                         [["S1-2", "S2"], ["S1"], []])
+
+    def test_a_poster_with_somebody_of_the_same_name(self):
+        """It has numbers beside these names, as long as both are in the session, in whichever halls."""
+        lines = {"0000001": Line("A", 1, "Ada Lin"), "0000002": Line("B", 1, "Bo"), "0000003": Line("", 0, "Cy"),
+                 "0000005": Line("D", 1)}  # as earlier versions kept it
+        ada, cy = Line("C", 1, "\u00c1DA  lin"), lines["0000003"]
+        for printed, now, halls in (
+                (None, ada, ["A", "C"]), (ada, None, ["A", "C"]), (cy, cy._replace(name="ada lin"), ["A"]),
+                (ada._replace(name="Bo"), ada, ["A", "B", "C"]), (ada, ada._replace(desk=2), ["C"]),
+                (None, ada._replace(name="Eda"), ["C"]), (ada._replace(name=""), ada, ["A", "C"])):
+            found = on_paper.out_of_date(self.office, [on_paper.Move("0000004", "", printed, now)], [], lines)
+            with self.subTest(printed=printed, now=now):
+                self.assertEqual(found["poster"], halls)
+                self.assertEqual(found.get("signatures"), ["C"] if "C" in halls else None)
+
+    def test_a_hall_with_the_code_of_a_paper(self):
+        """What is another of the one is on no paper of the other."""
+        lines = {"0000001": Line("ART", 1, paper="MA"), "0000002": Line("GYM", 1, paper="ART")}
+        for what, halls in (("ART: paper title", ["GYM"]), ("ART: hall title", ["ART"]), ("ART: desks", ["ART"]),
+                            ("school: name", ["ART", "GYM"])):
+            found = on_paper.out_of_date(self.office, [], [(what, "old", "new")], lines)
+            self.assertEqual((what, found["doors"]), (what, halls))
 
     def test_rows(self):
         notebook.keep_rows(self.office, "A", Rows(100, "down"))
@@ -214,7 +243,8 @@ class Commands(sample.SampleSchool):
         self.assertIn("<small><bdi>your seats and appeals: https://hill.example/&lt;b&gt;</bdi></small>",
                       self.office("slips", "--only", "0001051"))
         self.assertNotIn("hill.example", self.office("board", "MON-AM"))
-        self.assertIn("an address has 1 to 80 bytes", self.refused("school", "--page", "a\n"))
+        for words in ["--page", "a\n"], ["a\n", "--page", "https://other.example"]:
+            self.assertIn("an address has 1 to 80 bytes", self.refused("school", *words))
         self.assertEqual(self.office("school", "", "--page", ""), "no name\n")
         self.assertEqual([line[2:] for line in logbook.last_lines(self.value)], [
             ["school", "0", "Hill"], ["school", "0", page], ["school", "0", "no page"], ["school", "0", "no name"]])
@@ -338,6 +368,25 @@ class Commands(sample.SampleSchool):
         halls = {place for line in moves for place in re.findall(r"(?:: |-> )([A-Z]\w+) \d+(?= ->|,|$)", line)}
         self.assertEqual(again, f"to print again: doors, signatures, poster, cards of {', '.join(sorted(halls - {'GYM'}))}; board, counts, slips")
         self.assertIn("PC1", again)
+        self.office("printed", "MON-AM")
+        with closing(sqlite3.connect(self.path)) as file:
+            for table in ("seat", "opening"):
+                file.execute(f"DELETE FROM {table} WHERE session = 'MON-AM'")
+            file.commit()
+        *_, again, last = self.office("printed", "MON-AM", "--look").splitlines()
+        self.assertEqual((again, last), ("to print again: board, counts, slips", "to take away, as nobody sits there now: "
+                                         "the papers of AULA, LIB, PC1, R12"))
+
+    def test_an_empty_hall_with_the_code_of_a_paper(self):
+        self.office("import", "halls", self.write("halls.csv", "hall,title,features\nLAT,Latin room,-\n"))
+        self.office("open-hall", "MON-AM", "LAT", "1", "09:05")  # five minutes, so that nobody can sit there
+        self.office("printed", "MON-AM")
+        self.office("import", "halls", self.write("halls.csv", "hall,title,features\nLAT,Room 1,-\n"))
+        self.assertEqual(self.office("printed", "MON-AM", "--look"), "the papers are up to date\n")
+        self.office("import", "papers", self.write("papers.csv", "paper,title,session,minutes,requires\n"
+                                                                 "LAT,Latin 1,MON-AM,90,-\n"))
+        self.assertEqual(self.office("printed", "MON-AM", "--look").partition("\n")[0],
+                         "LAT: paper title Latin -> Latin 1")
 
     def test_the_log_says_who_noted_it(self):
         answers = [self.office("printed", "MON-AM")]
@@ -346,7 +395,7 @@ class Commands(sample.SampleSchool):
         lines = [line for line in logbook.last_lines(self.value) if line[2] == "printed MON-AM"]
         self.assertEqual([line[3:] for line in lines], [["0", answer[:-1]] for answer in answers])
         self.assertIsNone(logbook.unfinished(self.value))
-        self.assertEqual(len(on_paper.noted(self.value, "MON-AM").lines), 59)  # of 60, one of whom has left
+        self.assertEqual(len(on_paper.noted(self.value, "MON-AM")[0]), 59)  # of 60, one of whom has left
 
     def test_who_has_no_desk(self):
         """They stand on the board and the copies, in no hall; a session may have nobody else."""
@@ -372,6 +421,11 @@ class Commands(sample.SampleSchool):
         self.office("open-hall", "TUE-PM", "GYM", "90", "18:00")
         self.assertIn("0001051 Di Berg: no desk -> GYM 1\n", self.office("printed", "TUE-PM", "--look"))
         self.assertIn("<td class=n>1 <small>new</small></td>", self.office("board", "TUE-PM"))
+        self.office("printed", "TUE-PM")
+        self.office("close-hall", "TUE-PM", "GYM")
+        self.assertEqual(self.office("printed", "TUE-PM", "--look"),
+                         "0001051 Di Berg: GYM 1 -> no desk\nto print again: board, counts, slips\n"
+                         "to take away, as nobody sits there now: the papers of GYM\n")
 
     def test_a_session_in_which_nobody_was(self):
         for kind, rows in (("sessions", "session,date,start\nTUE-PM,2027-06-08,14:00\n"),

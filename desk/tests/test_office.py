@@ -35,6 +35,14 @@ class Faults(unittest.TestCase):
                 command.tell(type(fault), fault, None)
             self.assertEqual(out.getvalue(), f"office: {said}\n")
 
+    def test_how_far_many_questions_are(self):
+        """It is shown after each hundred, and goes behind the last one."""
+        with mock.patch("command.progress") as shown:
+            for done, of in (100, 499), (99, 500), (100, 500), (500, 500), (1100, 1150), (1150, 1150):
+                command.show_asked(done, of)
+        self.assertEqual([call.args[0] for call in shown.mock_calls],
+                         ["100 of 500 candidates", "", "1,100 of 1,150 candidates", ""])
+
     def test_the_log_has_who_gave_a_command_by_sudo(self):
         with mock.patch("exam_desk.beside.user_name", return_value="examoffice"), mock.patch.dict(os.environ, SUDO_USER="ada"):
             self.assertEqual(command.user(), "ada as examoffice")
@@ -46,8 +54,15 @@ class Words(sample.SampleSchool):
     def test_both_kinds_of_commands_are_listed(self):
         text = self.office()
         self.assertEqual([self.office(word) for word in ("-h", "--help", "help")], [text] * 3)
-        self.assertEqual(self.office("help", "back"), self.office("back", "--help"))
-        for word in ("check-files", "lodge", "keep", "back", "close-hall", "refused"):
+        found = self.office("help", "back")
+        self.assertEqual(found, self.office("back", "--help"))
+        self.assertRegex(found, r"^usage: office back \[-h\] \[--yes\] \[NUMBER\]\n\nLists the copies (.*\n)+"
+                                "    office back 1 +takes back the last change, after a question\n(.*\n)+  NUMBER +of the list\n")
+        self.assertRegex(self.office("name", "--help"), r"^usage: office name \[-h\] NUMBER NAME\n\n")
+        names = re.findall("^  ([a-z-]+) ", text.partition("Commands of the program:")[0], re.MULTILINE)
+        self.assertEqual(names, sorted(names))
+        self.assertLess({"check-files", "lodge", "keep", "back"}, {*names})
+        for word in ("close-hall", "refused"):
             self.assertIn(word, text)
 
     def test_a_bad_value_is_shown(self):
@@ -129,7 +144,8 @@ class Words(sample.SampleSchool):
         self.office("printed", "MON-AM")
         for words, mode, folder, is_said in (
                 *(([*words], 0o604, 0o755, True) for words in (  # with needs, notes or reasons
-                    ["printed", "MON-AM", "--look"], ["changes", self.path], ["why", "MON-AM"], ["notes"], ["appeals-open"])),
+                    ["printed", "MON-AM", "--look"], ["changes", self.path], ["why", "MON-AM"], ["notes"], ["appeals-open"],
+                    ["session-page", "MON-AM"], ["slips", "--only", "1051"])),
                 (["slips", "--codes"], 0o644, 0o755, True), (["doors", "MON-AM"], 0o640, 0o755, True),
                 (["look", "1051"], 0o600, 0o755, False), (["look", "1051"], 0o644, 0o700, False), (["look", "1051"], 0o640, 0o710, True),
                 (["look", "1051"], 0o604, 0o755, True), (["poster", "MON-AM"], 0o644, 0o755, False)):
@@ -297,6 +313,8 @@ class Words(sample.SampleSchool):
             for word in ("examoffice ", "--db", "--today"):
                 self.assertNotIn(word, text, words)
         self.assertIn("\n  24 the file holds no office: `office check` names the bad table; `office init` makes", text)
+        numbers = {int(number) for number in re.findall(r"(?m)^ +(\d+) ", text)}
+        self.assertEqual({*refusals.SENTENCES}, numbers | {11, 13, 14, 18, 19, 21})  # of requests alone
         self.assertFalse(os.path.exists(self.desk))
         self.assertIn("office reinstate --list FILE.csv\n", self.office("reinstate", "--help"))
         self.assertEqual(self.run_office("nothing-like-it", "--help").returncode, 2)
@@ -517,6 +535,9 @@ class Back(sample.SampleSchool):
         for copy in (copies.keep_copy(self.value, "x"), copies.keep_day(self.value, self.value.today())):
             self.assertFalse(os.path.exists(f"{copy}/office.db-wal"))
             self.assertEqual(self.office("check", OFFICE=f"{copy}/office.db"), "good\n")
+        os.remove(f"{self.desk}/want.lock")
+        os.mkdir(f"{self.desk}/want.lock")  # so nobody can have a turn
+        self.assertEqual(self.office("check"), "good\n")
 
     def test_a_copy_of_an_earlier_version_is_put_back(self):
         with closing(sqlite3.connect(self.path)) as file:

@@ -155,6 +155,9 @@ class Posters(sample.SampleSchool):
         depth = len(rows)
         self.assertTrue(rows[1][0].startswith("2"), rows)
         self.assertEqual(rows[0][1][:len(str(depth + 1))], str(depth + 1))
+        for across, kind in (("12", "chart"), ("13", "chart wide")):  # longer rows stand on a wide page
+            self.office("rows", "AULA", across)
+            self.assertIn(f"<table class='{kind}' style='--across: {across}'", self.office("chart", "MON-AM", "AULA"))
         for words in (["X", "4"], ["AULA"], ["AULA", "0"], ["AULA", "101"]):
             self.refused("rows", *words)
         self.assertIn("their numbers run across, ", self.refused("rows", "AULA", "4", "sideways"))
@@ -207,6 +210,7 @@ class OutOfDate(sample.SampleSchool):
                 ("none", "", {"hall": None, "desk": None}), ("paper", "", {"paper": "MA-2"}),
                 ("finish", "", {"finish": "11:01"}), ("needs", "", {"needs": ("quiet",)}), ("extra", "", {"extra": 10}),
                 ("misses", "", {}), ("note", "", {}), ("name", first.format("candidate", "name = 'Bo'", f"number = {number}"), {}),
+                ("namesake", first.format("candidate", "name = 'ada LIN'", "number = 1034"), {}),  # who sits in LIB
                 ("date", first.format("session", "day = '2027-06-09'", "code = 'MON-AM'"), {"date": "2027-06-09"}),
                 ("start", first.format("session", "start = 541", "code = 'MON-AM'"), {"start": "09:01"}),
                 ("paper title", first.format("paper", "title = 'Latin 1'", "code = 'LAT'"), {}),
@@ -217,7 +221,7 @@ class OutOfDate(sample.SampleSchool):
                 ("rows", "", {}), ("school", "", {})):
             with self.subTest(what), Reading(office) as reading:
                 pages, then, shared = self.printed(reading)
-                reading.mark, reading.rows.execute("PRAGMA query_only = OFF")
+                reading.mark  # from now on, whatever rows are others
                 reading.rows.execute(query) if query else None
                 self.sits(reading, **values)
                 if what == "left":

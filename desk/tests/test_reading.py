@@ -52,6 +52,8 @@ class Readings(sample.SampleSchool):
             self.assertFalse(reading.is_current())
             with Reading(self.value) as other:
                 self.assertFalse(other.is_current())  # another change within the same tick would not be seen
+            os.remove(self.path)
+            self.assertFalse(reading.is_current())
 
     def test_what_a_program_adds_to_the_second_file_is_seen(self):
         self.withdraw()

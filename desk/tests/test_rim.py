@@ -5,6 +5,7 @@ import contextlib
 import fcntl
 import json
 import os
+import resource
 import shutil
 import signal
 import subprocess
@@ -15,7 +16,7 @@ import unittest
 from unittest import mock
 
 import sample
-from exam_desk import asking, beside, hold, keeping, refusals, turns
+from exam_desk import asking, beside, hold, keeping, refusals, running, turns
 from exam_desk.office import Trouble
 
 NOBODY = 65534
@@ -146,6 +147,12 @@ class Door(unittest.TestCase):
             head = b"".join([b"POST / HTTP/1.1", *(b"\r\ncontent-LENGTH:" + length for length in lengths), hold.END])
             self.assertEqual(hold.body_length(head), found, lengths)
 
+    def test_it_takes_half_as_many_clients_as_the_system_lets_it_open_files(self):
+        for most, files, clients in ((1 << 20, 8000, 4000), (501, 501, 250)):
+            with mock.patch("resource.getrlimit", return_value=(9, most)), mock.patch("resource.setrlimit") as limited:
+                self.assertEqual(hold.Hold().most_clients, clients)
+            limited.assert_called_once_with(resource.RLIMIT_NOFILE, (files, most))
+
     def test_no_answer_at_all(self):
         with mock.patch.object(hold, "GAP_SECONDS", 0.1):
             self.assertRegex(asyncio.run(self.given(hold.Hold(), *[OSError()] * 99)), b"^HTTP/1.1 504 Gateway Timeout\r\n")
@@ -194,6 +201,11 @@ class Starting(sample.SampleSchool):
         with open(os.path.join(self.desk, name), encoding="utf-8", errors="replace") as file:
             return file.read()
 
+    def test_rows_need_proc(self):
+        words = ["import", "entries", "entries.csv"]
+        with mock.patch("os.path.exists", return_value=False), self.assertRaisesRegex(Trouble, "^/proc is not mounted, so"):
+            running.run_over(self.value, self.path, *words, data=b"number,paper\n")
+
     def test_a_long_fault_is_cut_and_a_cut_text_is_none(self):
         with turns.lock_file(self.value, "keep.lock") as lock:
             place = os.fsdecode(b"/run/caf\xe9/keep.socket")
@@ -214,6 +226,15 @@ class Closed(sample.SampleSchool):
             line = ["sh", "-c", f'exec "$@" {closed}', "sh", sample.DESK / "office", *words]
             done = subprocess.run(line, env=self.environment, capture_output=True, encoding="utf-8", check=False)
             self.assertEqual((done.returncode, done.stderr), (status, said))
+
+    def test_whoever_reads_no_further_hears_nothing(self):
+        for words in ["board", "MON-AM"], ["look", "--help"]:
+            reads, writes = os.pipe()
+            os.close(reads)
+            with open(writes, "wb") as output:
+                done = subprocess.run([sample.DESK / "office", *words], env=self.environment, stdout=output,
+                                      stderr=subprocess.PIPE, encoding="utf-8", check=False)
+            self.assertEqual((done.returncode, done.stderr), (1, ""), words)
 
     def test_a_signal_that_nohup_ignores_ends_nothing(self):
         self.office("withdraw", "0001000", "MA-1")
@@ -309,6 +330,9 @@ class Elsewhere(sample.SampleSchool):
             with mock.patch("os.kill") as sent, self.assertRaises(Trouble):
                 turns.signal_keep({"pid": process}, signal.SIGUSR1)
             sent.assert_not_called()
+        with mock.patch("os.kill") as sent:
+            turns.signal_keep({"pid": 1}, signal.SIGUSR1)  # as in a container of its own
+        sent.assert_called_once_with(1, signal.SIGUSR1)
 
     @unittest.skipUnless(shutil.which("unshare") and os.geteuid() == 0, "a namespace needs root")
     def test_a_command_in_another_namespace(self):

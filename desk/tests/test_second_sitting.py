@@ -225,6 +225,10 @@ class There(SecondSitting):
         self.assertTrue(done.stdout.endswith("do this? [y/N] "), done.stdout)
         self.assertEqual((self.state(), len(self.kept())), (self.before, self.copies_before))
         self.assertTrue(self.run_office("second-sitting", *ONE, stdin="").stdout.endswith("do this? [y/N] \n"))
+        line = [sample.DESK / "office", "second-sitting", *ONE]
+        done = subprocess.run(line, env={**self.environment, "PYTHONIOENCODING": "utf-8"}, input=b"y\xff\n",
+                              capture_output=True, check=False)
+        self.assertEqual((done.returncode, done.stderr), (1, b"office: nothing is changed\n"))
         self.assertIn("done; ", self.office("second-sitting", *ONE, stdin="y\n"))
 
     def test_an_arrangement_that_holds_in_one_session_alone_is_noted(self):

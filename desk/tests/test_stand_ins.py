@@ -14,8 +14,8 @@ from cells import Cells
 
 from exam_desk import telling  # beside the tests' folder
 from exam_desk.facts import session_row
-from exam_desk.reading import Reading
-from exam_desk.sheets import papers, printing, slips, texts
+from exam_desk.reading import Reading, objects
+from exam_desk.sheets import papers, slips, texts
 from exam_desk.sheets.session_page import Page
 from exam_desk.office import Trouble
 
@@ -34,7 +34,7 @@ class Pages:
         self.page, self.faults = page.document(), page.faults
         self.summary = texts.summary(reading, [SESSION])
         self.reasons = page.reasons
-        self.sheets = printing.written(reading, session_row(reading.rows, SESSION))
+        self.sheets = texts.written(reading, session_row(reading.rows, SESSION))
         self.look = "\n".join(texts.asked_lines(reading, NUMBER, False))
         changes = telling.differences(before, reading)
         self.changes = telling.text(changes)
@@ -180,8 +180,13 @@ class StandIns(sample.SampleSchool):
         self.assertIn(f"the program prints another attendance {SESSION} LAT than its answers give; nothing is", said)
 
     def test_answers_of_another_form(self):
-        with self.assertRaisesRegex(Trouble, "the program answered something else than seats"):
+        said = "the program answered something else than seats"
+        with self.assertRaisesRegex(Trouble, said):
             self.pages(more=1)
+        for body in (b"", b"[]", b"[" * 100_000, b'{"clashes": []}', b'{"seats": 1}', b'{"seats": [1]}',
+                     b'{"seats": [{}]}'):
+            with self.subTest(body=body[:20]):
+                self.assertRaisesRegex(Trouble, said, objects, body, "seats")
 
 
 if __name__ == "__main__":

@@ -44,7 +44,7 @@ class WhatIf(test_changing.Changing):
     def test_back_of_a_bad_copy_and_of_none(self):
         self.office("withdraw", "0001000", "MA-1")
         self.assertIn("there is no copy 2", self.refused("what-if", "back", "2"))
-        self.assertIn("`office back` changes no seat; ", self.refused("what-if", "back"))
+        self.assertIn("`office back` alone changes no seat; ", self.refused("what-if", "back"))
         done = self.run_office("what-if", "back", "x")
         self.assertEqual((done.returncode, done.stdout), (2, ""))
         self.assertIn("argument NUMBER: invalid int value: 'x'", done.stderr)

@@ -5,15 +5,19 @@ import concurrent.futures
 import contextlib
 import csv
 import functools
+import io
 import json
 import os
 import pathlib
+import re
 import shutil
 import subprocess
 import sys
 import tempfile
 import time
+import unicodedata
 import unittest
+import zipfile
 from unittest import mock
 
 import sample
@@ -26,13 +30,13 @@ import harder  # noqa: E402
 import odd  # noqa: E402
 import rawbook  # noqa: E402
 from exam_desk import files  # noqa: E402
+from exam_desk.dumping import new_folder, put_workbook, workbook_of, write_kind  # noqa: E402
 from exam_desk.mistakes import Known  # noqa: E402
 from exam_desk.office import Trouble  # noqa: E402
-from exam_desk.workbook import cells, child, numberformats, opening  # noqa: E402
+from exam_desk.workbook import cells, child, headers, numberformats, opening, values  # noqa: E402
 from exam_desk.workbook.cells import Sheet, packed, unpacked  # noqa: E402
 from exam_desk.workbook.headers import read_columns  # noqa: E402
-from exam_desk.workbook.reading import (mend_folder, new_folder, put_workbook, read_book, workbook_of, write_folder,
-                                        write_kind)  # noqa: E402
+from exam_desk.workbook.reading import mend_folder, read_book, write_folder  # noqa: E402
 from exam_desk.workbook.tables import Job, together  # noqa: E402
 
 AT_A_TIME = 4
@@ -119,6 +123,8 @@ class Child(unittest.TestCase):
             self.assertEqual(f"-B {opening.CHILD} write\n", opening.ask_child("write", b"").decode())
             with mock.patch.object(opening, "PYTHON", "/none"):  # another system may have none
                 self.assertIn(b"cut short", opening.ask_child("read", b""))
+        with mock.patch("importlib.util.find_spec"), mock.patch.object(opening, "PYTHON", "/bin/echo"):
+            self.assertIn(b"cut short", opening.ask_child("read", b""))
 
     def test_no_file_can_be_written(self) -> None:
         body = (HERE.parent.parent / "exam_desk/workbook/child.py").read_text("utf-8")
@@ -162,6 +168,17 @@ class Limits(unittest.TestCase):
         self.refused("more than 1 sheets", two, "xlsx", MOST_SHEETS=1)
         self.refused("more than 1 sheets", rawbook.ods(tables), "ods", MOST_SHEETS=1)
         self.refused("asks for more than 1 GB", two, "xlsx", parse=mock.Mock(side_effect=MemoryError))
+
+    def test_what_a_limit_allows_is_read(self) -> None:
+        """Six cells whose texts stand apart, and all elements of all parts."""
+        whole = rawbook.xlsx(cases.candidates(cases.ADA))
+        with zipfile.ZipFile(io.BytesIO(whole)) as archive:
+            tags = sum(len(re.findall(rb"<\w", archive.read(name))) for name in archive.namelist())
+        for module, name, less, most in (("cells", "MOST_TAGS", tags - 1, tags),
+                                         ("xlsx", "Budget", functools.partial(cells.Budget, 11), functools.partial(cells.Budget, 12))):
+            self.refused("it has more than", whole, module, **{name: less})
+            with mock.patch(f"exam_desk.workbook.{module}.{name}", most):
+                self.assertEqual("xlsx", unpacked(child.read(whole)).form)
 
     def test_no_cell_stands_beyond_a_sheet(self) -> None:
         for place in ("XFE1", "A1048577", "A0"):
@@ -218,6 +235,13 @@ class Limits(unittest.TestCase):
         self.assertEqual(300, job.count("mistake"))
         self.assertLess(time.process_time() - began, 10)
 
+    def test_a_wide_sheet_is_folded_once(self) -> None:
+        """Of 20 rows and 1,000 columns, in which a header of each kind is looked for."""
+        rows = "".join(",".join(f"{row}x{column}" for column in range(1000)) + "\n" for row in range(20))
+        headers.folded.cache_clear()
+        read_book(opening.read_csv(rows.encode(), "x"), Job(Known()))
+        self.assertLess(headers.folded.cache_info().misses, 21_000)
+
     def test_spaces_that_are_counted_have_a_limit(self) -> None:
         cell = '<table:table-cell office:value-type="string"><text:p>a<text:s text:c="5000"/>b</text:p></table:table-cell>'
         book = unpacked(child.read(rawbook.ods(f'<table:table table:name="x">{rawbook.ods_row(cell)}</table:table>')))
@@ -240,8 +264,58 @@ class Numbers(unittest.TestCase):
                 ("2.5", "0", "number", "2.5", "3"), ("-2.5", "0", "number", "-2.5", "-3"), ("0.125", "0.00", "number", "0.125", "0.13"),
                 ("46539", "yyyy-mm-dd", "date", "2027-06-01", "2027-06-01"), ("46539", "d.m.yyyy", "date", "2027-06-01", ""),
                 ("46539", "YYYY\\-MM\\-DD;@", "date", "2027-06-01", "2027-06-01"), ("0.375", "hh:mm;@", "time", "09:00:00", "09:00"),
-                ("0.375", "h:mm", "time", "09:00:00", "")):
+                ("0.375", "h:mm", "time", "09:00:00", ""), ("17", "\\R0", "number", "17", "R17")):
             self.assertEqual((kind, text, shown), numberformats.number_cell(raw, form)[:3], (raw, form))
+
+
+    @needs_openpyxl
+    def test_the_formats_with_a_number_are_those_of_openpyxl(self) -> None:
+        """A number without a format of its own has one of them; those of money are of each machine."""
+        from openpyxl.styles.numbers import BUILTIN_FORMATS
+        for place, form in BUILTIN_FORMATS.items():
+            theirs, ours = (numberformats.number_cell("1234.5", each) for each in (form, numberformats.BUILT_IN[place]))
+            is_shown = place not in (*range(5, 9), *range(37, 45))
+            self.assertEqual(theirs and theirs[:2 + is_shown], ours and ours[:2 + is_shown], (place, form))
+        dates = {*range(14, 23), *range(27, 37), 45, 47, *range(50, 59)}  # some of them in other countries alone
+        self.assertEqual(dates, {place for place, form in numberformats.BUILT_IN.items() if numberformats.kind_of(form) == "moment"})
+
+
+class Values(unittest.TestCase):
+    def read(self, column: str, text: str, dates: str = "") -> tuple[str, ...]:
+        """The value of a text, what was done, and what only an eye can judge; or why it is none."""
+        try:
+            return values.read_value(column, cells.Cell("text", text, text), values.Way(dates))[:3]
+        except values.Wrong as fault:
+            return str(fault),
+
+    def test_what_was_done_is_said(self) -> None:
+        of_a_hall = "a hall that is open until 00:00 suits nobody; midnight is 24:00"
+        for column, text, *said in (
+                ("number", "'17", "0000017", "a quote in front taken away, zeros in front", ""),
+                ("number", "'0000017", "0000017", "a quote in front taken away", ""), ("number", "17 ", "0000017", "spaces at the ends taken away, zeros in front", ""),
+                ("paper", "ma\u20131", "MA-1", "a dash made a hyphen, small letters made capitals", ""), ("paper", "MA\u20131", "MA-1", "a dash made a hyphen", ""),
+                ("paper", "ma-1", "MA-1", "small letters made capitals", ""), ("code", "wk3degzdpc", "WK3DEGZDPC", "small letters made capitals", ""),
+                ("reserved", "Ja", "yes", "yes or no", ""), ("reserved", "no", "no", "", ""), ("reserved", "", "no", "empty is no", ""),
+                ("needs", "", "-", "empty is none", ""), ("needs", "None", "-", "none", ""), ("needs", "-", "-", "", ""),
+                ("needs", "Quiet, screen", "screen+quiet", "in the office's words and order", ""), ("needs", "screen+quiet", "screen+quiet", "", ""),
+                ("extra", "", "0", "empty is none", ""), ("extra", "None", "0", "none", ""), ("extra", "25 %", "25", "percent", ""),
+                ("extra", "1", "1", "", "is 1 percent; 100 percent is 100"), ("extra", "0,25", "25 percent? Write the percent as a whole number"),
+                ("minutes", "090", "90", "zeros in front taken away", ""), ("minutes", "90", "90", "", ""), ("minutes", "90 min", "90", "minutes", ""),
+                ("minutes", "1 h 30", "90", "1 h 30 min", ""), ("start", "00:00", "00:00", "", ""), ("until", "00:00", "00:00", "", of_a_hall),
+                ("date", "12/12/2027", "2027-12-12", "Sunday, 12 December 2027", ""),
+                ("date", "13/12/2027", "2027-12-13", "Monday, 13 December 2027, as there is no month 13", ""),
+                ("date", "1.6.2027", "2027-06-01", "Tuesday, 1 June 2027, the day first as always with points", ""),
+                ("name", "Ada\u00a0L\u200bin", "Ada Lin", "invisible marks taken out, hard spaces made plain", "")):
+            self.assertEqual(tuple(said), self.read(column, text), (column, text))
+        for dates, day in ("day-first", "Tuesday, 1 June"), ("month-first", "Wednesday, 6 January"):
+            self.assertEqual(f"{day} 2027, {dates}", self.read("date", "01/06/2027", dates)[1])
+
+    def test_what_no_eye_sees_is_taken_out(self) -> None:
+        """All format characters but the joiners, which are kept, and marks of other scripts, which are seen."""
+        marks = {chr(code) for code in range(1 << 16) if unicodedata.category(chr(code)) == "Cf"}
+        kept = {mark for mark in marks if values.cleaned(f"a{mark}b")[0] != "ab"}
+        self.assertEqual({"\u200c", "\u200d"}, {mark for mark in kept if not "\u0600" <= mark <= "\u08ff"})
+        self.assertEqual("a b", values.cleaned("a\u202fb")[0])
 
 
 class Columns(unittest.TestCase):
@@ -261,6 +335,8 @@ class Columns(unittest.TestCase):
                 read_columns("c.toml", text.encode())
             self.assertEqual("c.toml", raised.exception.place)
             self.assertIn(said, raised.exception.sentence)
+        with self.assertRaisesRegex(Trouble, f"^{HERE}: is no file, but a folder"):
+            read_columns(str(HERE))
 
 
 class Told(unittest.TestCase):
@@ -276,9 +352,11 @@ class Told(unittest.TestCase):
         for row in [2, 3, 4, 6, 8, 9, 11, 13, 15, 16]:
             self.job.change(f"number {row} became 000000{row} (zeros in front)", self.sheet, row, 1, "numberzeros")
             self.job.mistake(f"extra '{row}.5': a whole number", self.sheet, row, 3, "extra a whole number")
+            self.job.note(f"looks like hall R{row}", self.sheet, row, 2)
         self.job.note("is not read", self.sheet)
         self.assertEqual(self.told(), [
             "'Form 1'!A2:A4, A6, A8:A9, A11, A13 and 2 more: number 2 became 0000002 (zeros in front); 10 such changes",
+            "'Form 1'!B2:B4, B6, B8:B9, B11, B13 and 2 more: NOTE: looks like hall R2; 10 such notes",
             "'Form 1': NOTE: is not read",
             "'Form 1'!C2:C4, C6, C8:C9, C11, C13 and 2 more: MISTAKE: extra '2.5': a whole number; 10 such mistakes"])
 
@@ -323,6 +401,11 @@ class Told(unittest.TestCase):
         self.assertEqual(["Candidates!D1: NOTE: the column 'Age' is not read", "Candidates!A2: MISTAKE: number is missing"],
                          [line.whole() for line in lines])
 
+    def test_a_page_names_no_command(self) -> None:
+        job = Job(Known(), values.Way(is_command=False))
+        self.assertEqual("MISTAKE: no sheet has rows of one of the seven kinds",
+                         read_book(opening.read_csv(b"number,name,code\n", "x"), job).lines[-1].whole())
+
     def test_what_differs_stands_apart(self) -> None:
         other = Sheet("Form 2")
         for sheet, column, text in [(self.sheet, 1, "is missing"), (other, 1, "is missing"), (other, 2, "is missing"),
@@ -341,7 +424,7 @@ class Mending(unittest.TestCase):
         with tempfile.TemporaryDirectory() as folder:
             for place, name in enumerate(("entries.csv", "entries-2.csv", "entries-10.csv"), 1):
                 pathlib.Path(folder, name).write_text(f"number,paper\n000000{place},MA-1\n", "utf-8")
-            job = mend_folder(folder, Job(Known()), None, lambda text: None)
+            job = mend_folder(folder, Job(Known()), None)
         self.assertEqual((["0000001", "0000002", "0000003"], 0),
                          ([record.fields[0] for record in job.records["entries"]], job.count("mistake")))
         self.assertEqual([], Job(Known()).together)
@@ -351,7 +434,7 @@ class Mending(unittest.TestCase):
             for name, text in (("halls.csv", ""), ("entries.csv", "number,paper\n0000001,MA-1\n"),
                                ("entries-2.csv", "Nummer,Kurs\n2,MA-1\n"), ("Pupils.XLSX", "")):
                 pathlib.Path(folder, name).write_text(text, "utf-8")
-            lines = [line.whole() for line in mend_folder(folder, Job(Known()), None, lambda text: None).lines]
+            lines = [line.whole() for line in mend_folder(folder, Job(Known()), None).lines]
         self.assertEqual(["NOTE: Pupils.XLSX is none of the seven files; it is not read",
                           "halls: NOTE: is empty, so it is not read"], lines[:2])
         self.assertRegex(lines[2], "^'entries-2'!1: MISTAKE: no row is a header with number and paper")
@@ -366,7 +449,7 @@ class Mending(unittest.TestCase):
     def test_a_folder_without_one_of_the_files_is_refused(self) -> None:
         with tempfile.TemporaryDirectory() as folder, self.assertRaisesRegex(Trouble, f"{folder}: none of the seven files"):
             pathlib.Path(folder, "pupils.csv").write_text("number,name,code\n", "utf-8")
-            mend_folder(folder, Job(Known()), None, lambda text: None)
+            mend_folder(folder, Job(Known()), None)
 
 
 class Writing(unittest.TestCase):
@@ -374,26 +457,22 @@ class Writing(unittest.TestCase):
         job = Job(Known())
         with tempfile.TemporaryDirectory() as folder:
             target = os.path.join(folder, "new")
-            job.mistake("wrong")
-            with self.assertRaises(Trouble):
-                write_folder(target, job, "read.txt")
-            self.assertEqual([], os.listdir(folder))
             os.mkdir(target)
             with self.assertRaisesRegex(Trouble, "is there already"):
-                write_folder(target, Job(Known()), "read.txt")
+                write_folder(target, Job(Known()))
             self.assertEqual([], os.listdir(target))
             with self.assertRaisesRegex(Trouble, "must end in .xlsx"):
                 put_workbook(os.path.join(folder, "new.ods"))
             job = Job(Known())
             job.note("a\x1b\u202eb\nc")
-            write_folder(os.path.join(folder, "harmless"), job, "read.txt")
+            write_folder(os.path.join(folder, "harmless"), job)
             self.assertEqual("NOTE: a??b?c\n", pathlib.Path(folder, "harmless", "read.txt").read_text("utf-8"))
             shutil.rmtree(os.path.join(folder, "harmless"))
             with self.assertRaises(ZeroDivisionError), new_folder(os.path.join(folder, "other")):
                 1 / 0
             self.assertEqual(["new"], os.listdir(folder))
             with self.assertRaisesRegex(Trouble, "the folder .*/none is not there"):
-                write_folder(os.path.join(folder, "none", "new"), Job(Known()), "read.txt")
+                write_folder(os.path.join(folder, "none", "new"), Job(Known()))
 
 
     def test_a_file_is_for_its_owner_alone_and_whole_or_not_there(self) -> None:
@@ -413,7 +492,25 @@ class Writing(unittest.TestCase):
         with tempfile.TemporaryDirectory() as folder, mock.patch("exam_desk.files.MOST_BYTES", 54):  # two rows
             self.assertEqual("entries: 5, in entries.csv and entries-2.csv and entries-3.csv", write_kind(folder, "entries", rows))
             self.assertEqual("halls: 1", write_kind(folder, "halls", [["A", "B", "-"]]))
-            self.assertEqual(4, len(os.listdir(folder)))
+            self.assertEqual("arrangements: 2, in arrangements.csv and arrangements-2.csv",
+                             write_kind(folder, "arrangements", [["0000001", "-", "25"], ["0000002", "-", "25"]]))
+            self.assertEqual(6, len(os.listdir(folder)))
+
+    @needs_openpyxl
+    def test_the_template_offers_what_a_column_takes(self) -> None:
+        """Of sets of features the list is a hint, since several may be joined: a spreadsheet takes other texts too."""
+        import openpyxl
+        book = openpyxl.load_workbook(io.BytesIO(workbook_of(None)))
+        features = '"-,step-free,screen,reader,small-room,computer,quiet"'
+        for name, column, offered, is_firm in (
+                ("Openings", "A", "Sessions!$A$2:$A$20001", True), ("Openings", "B", "Halls!$A$2:$A$20001", True),
+                ("Openings", "E", '"yes,no"', True), ("Papers", "E", features, False), ("Arrangements", "B", features, False),
+                ("Entries", "A", "Candidates!$A$2:$A$20001", True)):
+            [rule] = [each for each in book[name].data_validations.dataValidation if str(each.sqref).startswith(f"{column}2:")]
+            self.assertEqual((offered, is_firm), (rule.formula1, bool(rule.showErrorMessage)), (name, column))
+            self.assertEqual(200_001 if name == "Entries" else 20_001, max(rows for *_, rows in (each.bounds for each in rule.sqref)))
+        self.assertEqual(("A2", "@"), (book["Halls"].freeze_panes, book["Halls"]["A2"].number_format))
+        self.assertEqual("The code of the hall: 1 to 8 of A-Z and 0-9", book["Halls"]["A1"].comment.text)
 
     @needs_openpyxl
     def test_texts_stay_texts_whatever_they_look_like(self) -> None:
@@ -452,8 +549,8 @@ class Commands(sample.SampleSchool):
     @needs_openpyxl
     def test_a_workbook_of_the_office_reads_as_its_files(self) -> None:
         self.office("dump", "facts")
-        self.office("dump", "--workbook", "facts.xlsx")
-        self.office("read", "facts.xlsx", "again")
+        self.office("dump", "--workbook", "again.xlsx")
+        self.office("read", "again.xlsx")
         for kind in corpus.KINDS:
             self.assertEqual(self.rows("facts", kind), self.rows("again", kind))
         self.assertEqual(0o700, os.stat(os.path.join(self.folder, "again")).st_mode & 0o777)
@@ -484,12 +581,13 @@ class Commands(sample.SampleSchool):
         self.assertEqual((1, ""), (done.returncode, done.stderr))
         self.assertIn("or say --dates day-first", done.stdout)
         self.assertFalse(os.path.exists(os.path.join(self.folder, "new")))
-        said = self.office("mend", "broken", "new", "--dates", "day-first")
+        self.assertEqual(2, self.run_office("mend", "broken", "new", "--dates", "first").returncode)
+        said = self.office("mend", "broken", "--dates", "day-first")
         self.assertIn("candidates!A2:A61: number 1000 became 0001000 (zeros in front); 60 such changes\n", said)
         self.assertEqual(said.count("its columns are parted by"), 1)
         for kind in corpus.KINDS:
-            self.assertEqual(self.rows("facts", kind), self.rows("new", kind))
-        self.assertIn("7 files, 0 mistakes", self.office("check-files", "new"))
+            self.assertEqual(self.rows("facts", kind), self.rows("broken-mended", kind))
+        self.assertIn("7 files, 0 mistakes", self.office("check-files", "broken-mended"))
 
     def spoiled(self, kind: str) -> str:
         """A file as a spreadsheet writes it that has turned numbers, dates and times into its own."""

@@ -5,7 +5,7 @@ import subprocess
 import unittest
 
 TOP = pathlib.Path(__file__).resolve().parents[2]
-FOLDERS = {"e2e": 16, "attacks": 14, "bench": 11}  # and the least number of scripts in python of each
+FOLDERS = {"e2e": 16, "attacks": 14, "bench": 12}  # and the least number of scripts in python of each
 
 
 def scripts(folder):

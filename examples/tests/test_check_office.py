@@ -78,6 +78,13 @@ WRONG_ROWS = {
         "CREATE TABLE other (number, paper, live); INSERT INTO other SELECT * FROM entry; DROP TABLE entry; "
         "ALTER TABLE other RENAME TO entry; UPDATE entry SET live = 'yes' WHERE number = 1",
         "a value of another type in live"),
+    "no value": (
+        "CREATE TABLE other (number, name, code); INSERT INTO other SELECT * FROM candidate; DROP TABLE candidate; "
+        "ALTER TABLE other RENAME TO candidate; UPDATE candidate SET name = NULL WHERE number = 7",
+        "a value of another type in name"),
+    "an answer that is no text": (
+        "CREATE TABLE other AS SELECT * FROM appeal; UPDATE other SET answer = x'41' WHERE ref = 'CL1'; DROP TABLE appeal; "
+        "ALTER TABLE other RENAME TO appeal", "a value of another type in answer"),
     "a number below 0, where nobody sits": (
         "INSERT INTO hall VALUES ('Z', 'Z', 0); INSERT INTO opening VALUES ('S3', 'Z', -1, 720, 0)", "a number below 0 in desks"),
     "the clash appeal is not granted": ("UPDATE appeal SET state = 3 WHERE ref = 'CL1'", "sheet S1.export, line 4"),
@@ -87,6 +94,8 @@ WRONG_ROWS = {
                                             "sheet S1.attendance.MA-1, line 6"),
     "the start is another": ("UPDATE session SET start = 541 WHERE code = 'S1'", "sheet S1.door-list.A, line 2"),
     "a name is another": ("UPDATE candidate SET name = 'Noel' WHERE number = 5", "sheet S1.door-list.B, line 3"),
+    "a name that is no UTF-8": ("UPDATE candidate SET name = CAST(x'42ff' AS TEXT) WHERE number = 5",
+                                "sheet S1.door-list.B, line 3: it has `   1 0000005 MA-1         =1+1 Noël`, and the rows give"),
     "a code that is a path": ("UPDATE session SET code = '../S3' WHERE code = 'S3'", "sheet ../S3.appeals: no session, hall or paper"),
     "a hall more": ("INSERT INTO opening VALUES ('S3', 'A', 1, 720, 0)", "sheet S3.door-list.A is missing"),
     "a hall suits who has no desk": ("UPDATE hall SET features = 16 WHERE code = 'B'",
@@ -234,6 +243,19 @@ class CheckOffice(SmallOffice):
                   "05-26 PH-2\n0000007 CL1              clash       granted    2027-05-26 PH-2\n")
         self.is_right()
 
+    def test_appeals_of_each_state(self):
+        """A candidate may have many granted hall appeals and many that were refused or taken back, of one session."""
+        found = [(kind, state, target, f"A{place}") for place, (kind, state, target) in enumerate([
+            (1, 2, "A"), (1, 2, "B"), (2, 3, "MB-1"), (2, 3, "LA-1"), (1, 4, "A"), (1, 4, "A")])]
+        values = ", ".join(f"(1, '{ref}', 'S3', {kind}, '{target}', 0, 0, '', {state}, '', '2027-05-30')"
+                           for kind, state, target, ref in found)
+        small_office.change(self.path, f"INSERT INTO appeal VALUES {values}")
+        words = {1: "hall", 2: "clash"}, {2: "granted", 3: "refused", 4: "retracted"}
+        lines = [f"0000001 {ref:16} {words[0][kind]:11} {words[1][state]:10} 2027-05-30 {target}\n"
+                 for kind, state, target, ref in found]
+        self.edit("S3.appeals", "appeals 0\n", "".join([f"appeals {len(found)}\n", *lines]))
+        self.is_right()
+
     def test_standing_grant_for_a_later_session(self):
         line = self.grant(5, "AR1", "S2", 50)
         self.edit("S2.appeals", "appeals 2", "appeals 3", "2027-05-30 A\n", f"2027-05-30 A\n{line}")
@@ -312,6 +334,16 @@ right: 3 sessions, 8 seats, 1 without a desk, 2 notes
             "S2 begins on 2027-06-02 at 00:14 halls have candidates of S1 then: A"])
         self.assertEqual(self.overlapping("UPDATE session SET day = '2027-06-03' WHERE code = 'S2'"), [])
 
+    def test_a_hall_with_the_code_of_a_paper(self):
+        """A granted clash appeal names the paper, and keeps nobody out of that hall; a hall appeal chooses no paper."""
+        small_office.change(self.path, "INSERT INTO hall VALUES ('PH-2', '', 17); INSERT INTO opening VALUES "
+                                       "('S1', 'PH-2', 1, 720, 0); UPDATE seat SET hall = 'PH-2' WHERE hall = 'C'; "
+                                       "INSERT INTO appeal VALUES (3, 'HA1', 'S1', 1, 'B', 0, 0, '', 2, '', '2027-05-30')")
+        rows = MODULE.load(self.path)
+        session = MODULE.Session(rows, MODULE.by_session(rows), "S1")
+        session.check_seats()
+        self.assertEqual([(member.number, member.paper) for member in session.in_hall["PH-2"]], [(3, "PH-2")])
+
     def test_three_sessions_and_many_candidates(self):
         more = [f"INSERT INTO candidate VALUES ({n}, 'N', 'C'); INSERT INTO entry VALUES ({n}, 'MA-1', 1), ({n}, 'LA-1', 1)"
                 for n in range(100, 121)]
@@ -342,6 +374,14 @@ os.rmdir(file + ".used")
             printed = self.folder / "printed"
             self.assertEqual(self.call("--print", self.path, printed), (0, self.right, ""))
         self.assertEqual({sheet.name: sheet.read_text("utf-8") for sheet in printed.iterdir()}, small_office.SHEETS)
+
+    def test_a_program_that_refuses_a_sheet(self):
+        fake = self.folder / "fake"
+        fake.write_text("#!/bin/sh\nprintf 'refused 9\\033[2J\\n' >&2\nexit 1\n")
+        fake.chmod(0o700)
+        with unittest.mock.patch.dict(os.environ, {"EXAMOFFICE": str(fake)}):
+            status, out, _ = self.call(self.path)
+        self.assertEqual((status, out), (1, "wrong: sheet S1.export: the program prints refused 9?[2J\n"))
 
     def test_so_many_sheets(self):
         count = len(small_office.SHEETS)
@@ -387,6 +427,7 @@ os.rmdir(file + ".used")
                 self.setUp()
                 small_office.change(self.path, statements)
                 self.cannot_look(self.path, self.sheets)
+        self.setUp()
         (self.folder / "none.db").write_text("no database at all" * 100)
         for words in ([], ["--print", self.path], [self.path, self.sheets, "more"], ["--what", self.path],
                       [self.folder / "missing.db"], [self.folder / "none.db", self.sheets], [self.folder],
@@ -453,6 +494,7 @@ class WithTheProgram(SmallOffice):
         self.assertEqual(found, (0, "right: 3 sessions, 8 seats, 1 without a desk\n", ""))
         self.assertEqual({sheet.name: sheet.read_text("utf-8") for sheet in printed.iterdir()}, small_office.SHEETS)
         self.assertEqual((self.path.read_bytes(), self.check(self.path, printed)), (before, found))
+        self.assertEqual({path.stat().st_mode & 0o77 for path in [printed, *printed.iterdir()]}, {0})
 
     def test_sample_school(self):
         """Before and after room 21 opens, for which others move."""

@@ -19,7 +19,7 @@ door gets `office poster`, and candidates sign `office signatures`."""),
     "signatures": Paper("Lists to sign", "left, desk, name, paper, school: name", """\
 By desk number, name and paper of each candidate, and a box to sign. It shows no arrangement, note or finish.""",
                         style="doors"),
-    "poster": Paper("Posters", "left, desk, name, other sessions, school: name", """\
+    "poster": Paper("Posters", "left, desk, name, namesakes, other sessions, school: name", """\
 A heading that is read from afar, and by name the desk of each candidate. Only namesakes of the session, in whichever
 halls, have their numbers beside the name. It shows no paper and no arrangement."""),
     "cards": Paper("Desk cards", "left, desk, name, paper, paper title", """\

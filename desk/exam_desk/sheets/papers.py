@@ -15,7 +15,7 @@ from exam_desk.sheets import PAPERS
 from exam_desk.sheets.pages import (CODE, HEADED, document, hall_names, html, joined, paper_names, safe, table, text,
                                     with_school)
 from exam_desk.telling import Change
-from exam_desk.words import clock, long_day, plain, short_day
+from exam_desk.words import clock, long_day, short_day
 
 BOARD = "<h1>{}</h1>\n<p class=legend>{}</p>\n<div class=columns>{}</div>\n"
 ASK = Markup("<b>ask the office</b>")  # in place of a hall
@@ -61,8 +61,8 @@ class Session:
         self.members, self.halls = reading.members(code), lists.halls(reading, code, asked)
         self.when = html("{}, {} ({})", long_day(head["day"]), clock(head["start"]), code)
         self.heading = with_school(self.office, self.when)
-        self.printed = on_paper.noted(self.office, code).lines
-        self.namesakes = Counter(lists.fold(plain(member.name)) for member in self.members)
+        self.printed, _ = on_paper.noted(self.office, code)
+        self.namesakes = Counter(lists.alike(member.name) for member in self.members)
 
     @functools.cached_property
     def others(self) -> dict[str, list[str]]:
@@ -74,7 +74,7 @@ class Session:
 
     def name(self, member: Member) -> Markup:
         """The name of a member, with the number where the session has namesakes."""
-        is_alone = self.namesakes[lists.fold(plain(member.name))] == 1
+        is_alone = self.namesakes[lists.alike(member.name)] == 1
         return text(member.name) if is_alone else html("{} <small class=w>{}</small>", text(member.name), member.number)
 
     def was(self, member: Member) -> str:

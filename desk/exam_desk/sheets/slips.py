@@ -108,5 +108,4 @@ def slips_of(reading: Reading, choice: Choice) -> list[Slip]:
     if missing := [number for number in choice.only if number not in numbers]:
         raise Trouble(f"{missing[0]} sits nothing in {few([*choice.sessions]) or 'any session'}")
     groups = [*dict.fromkeys(filter(None, choice.groups.values())), ""]
-    places = {group: place for place, group in enumerate(groups)}
-    return sorted(slips, key=lambda each: places[each.group])
+    return sorted(slips, key=lambda each: groups.index(each.group))

@@ -50,6 +50,7 @@ class Sheet:
     merged: list[Sequence[int]] = field(default_factory=list)  # first row and column, last row and column
     comments: list[Sequence[int]] = field(default_factory=list)  # row and column
     book: str = ""  # in which it is, where a sheet of another book has its name too
+    heads: dict[int, dict[str, list[int]]] = field(default_factory=dict)  # of the first rows (`headers.heads_of`)
 
 
 class Book(NamedTuple):

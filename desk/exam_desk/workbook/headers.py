@@ -3,7 +3,7 @@
 import functools
 import re
 import unicodedata
-from collections.abc import Mapping, Sequence
+from collections.abc import Iterable, Mapping, Sequence
 from types import MappingProxyType
 from typing import NamedTuple
 
@@ -51,7 +51,7 @@ HEADER_WORDS = {(kind, column): {column, *WORDS.get(column, "").split(), *OF_KIN
                 for kind, header in files.HEADERS.items() for column in header}
 FIRST_NAME = "firstname firstnames givenname forename vorname".split()
 LAST_NAME = "lastname surname familyname nachname".split()
-LISTS = re.compile("withdr|reinstat|abmeld|rücktritt")  # begin the names of lists of entries that do not bring them in
+LISTS = re.compile("withdr|reinstat|ab(ge)?meld|rücktritt")  # begin the names of lists of entries that bring in none
 OF_PEOPLE = {"name", *WORDS["name"].split(), *FIRST_NAME, *LAST_NAME}
 MARKED = {"papers": "requires", "halls": "features", "arrangements": "needs", "entries": "paper"}  # or crosses
 
@@ -83,8 +83,18 @@ def seen(cell: Cell | None) -> Cell | None:
     return cell if cell is None or cell.kind != "text" or bare(cell.text) else None
 
 
-def text_cells(cells: Mapping[int, Cell]) -> dict[int, str]:
-    return {column: cell.text for column, cell in cells.items() if cell.kind == "text" and len(cell.text) <= 200}
+def heads_of(cells: Mapping[int, Cell]) -> dict[str, list[int]]:
+    """Of each text of a row, folded, the columns that have it."""
+    heads: dict[str, list[int]] = {}
+    for column, cell in sorted(cells.items()):
+        if cell.kind == "text" and len(cell.text) <= 200:
+            heads.setdefault(folded(cell.text), []).append(column)
+    return heads
+
+
+def columns_of(heads: Mapping[str, list[int]], words: Iterable[str]) -> list[int]:
+    """The columns whose head is one of these words."""
+    return sorted(column for word in words for column in heads.get(word, []))
 
 
 def is_called_list(name: str) -> bool:
@@ -92,13 +102,12 @@ def is_called_list(name: str) -> bool:
     return LISTS.match(folded(name)) is not None
 
 
-def match_header(kind: str, row: int, cells: Mapping[int, Cell], given: Given, names: Sequence[str]) -> Header:
+def match_header(kind: str, row: int, heads: Mapping[str, list[int]], given: Given, names: Sequence[str]) -> Header:
     """A row as the header of a kind, or of some of its columns."""
-    heads = {column: folded(text) for column, text in text_cells(cells).items()}
     header = Header(row, {}, {})
     for name in names or files.HEADERS[kind]:
         words = [{folded(each)} for each in given.headers.get(name, [])] or [HEADER_WORDS[kind, name]]
-        places = [sorted(column for column, head in heads.items() if head in these) for these in words]
+        places = [columns_of(heads, these) for these in words]
         if all(places):
             header.columns[name] = [columns[0] for columns in places]
         header.twice.update({name: columns for columns in places if len(columns) > 1})
@@ -107,12 +116,12 @@ def match_header(kind: str, row: int, cells: Mapping[int, Cell], given: Given, n
     return header
 
 
-def join_names(header: Header, heads: Mapping[int, str]) -> None:
+def join_names(header: Header, heads: Mapping[str, list[int]]) -> None:
     """Takes first and last names in two columns as one. Beside `Vorname`, `Name` is the last name; beside other such
     columns nobody can say what it is."""
-    first, last = ([column for column, head in heads.items() if head in words] for words in (FIRST_NAME, LAST_NAME))
-    whole = header.columns.get("name", [])
-    if [heads[column] for column in first + whole] == ["vorname", "name"] and not last:
+    first, last = columns_of(heads, FIRST_NAME), columns_of(heads, LAST_NAME)
+    whole, german = header.columns.get("name", []), [heads.get(word, [])[:1] for word in ("vorname", "name")]
+    if all(german) and [first, whole] == german and not last:
         last, whole = whole, []
     if whole and first + last:
         header.twice["name"] = sorted(header.twice.get("name", whole) + first + last)
@@ -121,8 +130,9 @@ def join_names(header: Header, heads: Mapping[int, str]) -> None:
 
 
 def possible_headers(kind: str, sheet: Sheet, given: Given, *names: str) -> list[Header]:
-    """The first rows of a sheet, each as the header of a kind."""
-    return [match_header(kind, row, sheet.rows[row], given, names) for row in sorted(sheet.rows)[:WITHIN]]
+    """The first rows of a sheet, each as the header of a kind. The sheet keeps their texts for the other kinds."""
+    sheet.heads = sheet.heads or {row: heads_of(sheet.rows[row]) for row in sorted(sheet.rows)[:WITHIN]}
+    return [match_header(kind, row, heads, given, names) for row, heads in sheet.heads.items()]
 
 
 def find_header(kind: str, sheet: Sheet, given: Given, whole: bool = False) -> Header | None:
@@ -139,8 +149,8 @@ def find_header(kind: str, sheet: Sheet, given: Given, whole: bool = False) -> H
 def read_columns(path: str, content: bytes | None = None) -> tuple[dict[str, Given], Way]:
     """What a file of columns says, or these bytes of one; raises `Trouble` where it says something else."""
     import tomllib
+    content = files.read(path) if content is None else content
     try:
-        content = files.read(path) if content is None else content
         if len(content) > MOST_COLUMNS or content.count(b".") > MOST_POINTS:
             raise Trouble(f"it has more than {MOST_COLUMNS:,} bytes or {MOST_POINTS:,} points: write only the headers "
                           "and words that your export has")
@@ -170,7 +180,7 @@ def given_of(kind: str, said: object) -> Given:
         is_header = texts and all(isinstance(text, str) and text.strip() for text in texts)
         if is_header and len({*map(folded, texts)}) == len(texts):
             headers[name] = texts
-        elif isinstance(always, str) and name != "sheet" and mistakes.RIGHT[name](always.encode()):
+        elif isinstance(always, str) and name != "sheet" and files.RIGHT[name](always.encode()):
             fixed[name] = always
         else:
             raise Trouble(f'[{kind}] {name}: write a header such as "Pupil ID", for names and titles also several '
@@ -181,11 +191,11 @@ def given_of(kind: str, said: object) -> Given:
 
 def words_of(name: str, meant: Mapping[str, str]) -> dict[str, str]:
     """What words in small letters stand for in a column."""
-    if name not in mistakes.RIGHT:
+    if name not in files.RIGHT:
         raise Trouble(f"[words.{name}]: {name} is no column of the import files")
     found: dict[str, str] = {}
     for word, value in meant.items():
-        if not mistakes.RIGHT[name](value.encode()):
+        if not files.RIGHT[name](value.encode()):
             raise Trouble(f"[words.{name}] {value!r} is no value of {name} ({mistakes.CURES[name]})")
         if found.setdefault(word.lower(), value) != value:
             raise Trouble(f"[words.{name}] {word!r} stands for two values: capitals do not matter")

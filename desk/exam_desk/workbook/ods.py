@@ -181,7 +181,7 @@ def letters(element: Element) -> str:
     text = plain_space(element.text)
     for inside in element:
         if (name := local(inside)) in SPACES:
-            text += SPACES[name] * max(0, min(int(attributes(inside).get("c", 1)), 1000))
+            text += SPACES[name] * min(int(attributes(inside).get("c", 1)), 1000)
         elif name not in IN_LETTERS:
             text += letters(inside)
         text += plain_space(inside.tail)

@@ -1,27 +1,23 @@
 """From a workbook, or from import files that a spreadsheet broke, to the rows of the seven kinds, which are checked as
-the files of an import are; and to a new folder of these files."""
-import contextlib
-import json
+the files of an import are; to a new folder of these files, or to their imports."""
 import os
 import re
-import shutil
-import tempfile
-from collections.abc import Iterable, Iterator, Mapping, Sequence
 
-from exam_desk import files, mistakes
+from exam_desk import coding, dumping, files, lists, mistakes
+from exam_desk.changing import Step
 from exam_desk.office import Trouble
 from exam_desk.workbook.cells import Book, Cell, Sheet, place_name
 from exam_desk.workbook.headers import KINDS, WITHIN, Header, find_header, folded, possible_headers
-from exam_desk.workbook.opening import ask_child, open_book
+from exam_desk.workbook.opening import open_book
 from exam_desk.workbook.rows import Table
-from exam_desk.workbook.tables import Job, Line, Progress, Record
+from exam_desk.workbook.tables import Job, Line, Record
 from exam_desk.words import plain
 
 FIRST = 2  # the line of a file with its first row
-Rows = Mapping[str, Sequence[Sequence[str]]]  # by kind
+LINES = "read.txt"  # in the folder that is made: what was changed
 
 
-def mend_folder(folder: str, job: Job, encoding: str | None, progress: Progress) -> Job:
+def mend_folder(folder: str, job: Job, encoding: str | None) -> Job:
     """Reads the import files of a folder by the rules of a workbook's cells, each as a sheet of its name."""
     book = Book("csv", [], [])
     for name in sorted(os.listdir(folder), key=lambda name: (len(name), name)):
@@ -34,31 +30,31 @@ def mend_folder(folder: str, job: Job, encoding: str | None, progress: Progress)
             book.notes.append(f"{name} is none of the seven files; it is not read")
     if not book.sheets:
         raise Trouble("none of the seven files is there", folder)
-    return read_book(book, job, progress)
+    return read_book(book, job)
 
 
-def read_book(book: Book, job: Job, progress: Progress = lambda text: None) -> Job:
+def read_book(book: Book, job: Job) -> Job:
     """Finds the tables of a workbook, reads their rows, and checks what comes out as the files of an import. Where a
     line is a mistake nothing may be written."""
     for text in book.notes:
         job.note(text, what=text.rpartition(": ")[2])
-    read_sheets(job, usable_sheets(job, book), progress)
+    read_sheets(job, usable_sheets(job, book))
     if not job.records and not job.count("mistake"):
         where = ": see `office template`" if job.way.is_command else ""
         job.mistake(f"no sheet has rows of one of the seven kinds{where}")
     keep_codes(job)
     said = {line.place for line in job.lines if line.sort == "mistake"}
     for kind, rows in job.records.items():
-        progress(f"{kind}: check of {len(rows):,} rows")
+        job.progress(f"{kind}: check of {len(rows):,} rows")
         check_file(job, kind, rows, said)
     return job
 
 
-def read_sheets(job: Job, sheets: list[Sheet], progress: Progress) -> None:
+def read_sheets(job: Job, sheets: list[Sheet]) -> None:
     """Reads the records of each kind that has some."""
     tables = [table for sheet in sheets for table in tables_of(job, sheet)]
     for kind in files.HEADERS:
-        progress(kind)
+        job.progress(kind)
         found = chosen(job, kind, [table for table in tables if table.kind == kind])
         if records := [record for table in found for record in table.records()]:
             job.records[kind] = records
@@ -108,8 +104,7 @@ def may_be(job: Job, kind: str, sheet: Sheet) -> bool:
 def kinds_by_name(job: Job, sheet: Sheet) -> list[str]:
     """The kinds that the file of columns or else the name of the sheet says."""
     given = [kind for kind, said in job.given.items() if said.sheet and may_be(job, kind, sheet)]
-    named = named_kind(sheet)
-    return given or ([named] if named and may_be(job, named, sheet) else [])
+    return given or [kind for kind in {named_kind(sheet)} - {""} if may_be(job, kind, sheet)]
 
 
 def named_kind(sheet: Sheet) -> str:
@@ -127,7 +122,7 @@ def headers_of(job: Job, sheet: Sheet) -> dict[str, Header | None]:
     if named := {kind: header for kind in told if (header := find_header(kind, sheet, job.given[kind]))}:
         return {**named}  # the officer has named their headers
     if job.paper(Cell("text", sheet.name, sheet.name)):
-        return {}  # a list of those who sit it
+        return {"entries": None}  # a list of those who sit it
     headers = {kind: header for kind in files.HEADERS if may_be(job, kind, sheet)
                and (header := find_header(kind, sheet, job.of_kind(kind), True))}
     read = {kind: {place for places in header.columns.values() for place in places} for kind, header in headers.items()}
@@ -151,7 +146,7 @@ def tables_of(job: Job, sheet: Sheet) -> list[Table]:
     if len(kinds) > 1 and not all(kind in job.given for kind in kinds):
         job.mistake(f"could be {' or '.join(kinds)}: call the sheet, or the CSV file, so", sheet)
         return []
-    if kinds and not is_named and not {*kinds} & {*job.together, *job.given}:
+    if any(kinds.values()) and not is_named and not {*kinds} & {*job.together, *job.given}:
         job.note(f"is read as {[*kinds][0]}, by its header", sheet)
     found = [Table(job, kind, sheet, header) for kind, header in kinds.items() if header]
     if not kinds or "entries" in kinds and not kinds["entries"]:
@@ -201,7 +196,7 @@ def keep_codes(job: Job) -> None:
     """A candidate without a code keeps the one that the office has. One line tells of all others of a sheet."""
     without: dict[str, list[Record]] = {}
     for record in job.records.get("candidates", []):
-        code = job.known.codes.get(encoded(record.fields[0]))
+        code = job.known.codes.get(files.encoded(record.fields[0]))
         if code and not record.fields[2]:
             record.fields[2] = code.decode()
             job.change("code (empty) became the one that the office has", record.sheet, record.row, record.columns[2])
@@ -211,12 +206,24 @@ def keep_codes(job: Job) -> None:
                        found[0].columns[2], mistakes.NO_CODE) for found in without.values()]
 
 
+def add_codes(job: Job) -> None:
+    """Gives each candidate who was read without a code a new one, where no line is a mistake."""
+    job.lines = [line for line in job.lines if line.what != mistakes.NO_CODE]
+    if not job.count("mistake"):
+        records = job.records.get("candidates", [])
+        known = {number.decode(): code.decode() for number, code in job.known.codes.items() if code}
+        rows, made = coding.filled([record.fields for record in records], known)
+        job.records["candidates"] = [record._replace(fields=row) for record, row in zip(records, rows)]
+        if made:
+            job.change(f"{lists.count(made, 'access code')} made")
+
+
 def check_file(job: Job, kind: str, rows: list[Record], said: set[str]) -> None:
     """Adds what `office check-files` would say of a file, on the cells from which its values come, unless a line on the
     cell says it. What was said is known afterwards."""
     header = files.HEADERS[kind]
     file = mistakes.File(kind, job.known, place=lambda line: place_name(*rows[line - FIRST][:2]))
-    found = file.looked_through(files.Record(line, tuple(map(encoded, record.fields)), True)
+    found = file.looked_through(files.Record(line, tuple(map(files.encoded, record.fields)), True)
                                 for line, record in enumerate(rows, FIRST))
     for sort, mistake in [(sort, each) for sort, lines in zip(("mistake", "note"), found) for each in lines]:
         if mistake.line < FIRST:
@@ -232,74 +239,25 @@ def check_file(job: Job, kind: str, rows: list[Record], said: set[str]) -> None:
             said.add(cell + text)  # a row of crosses has one number and is several rows of the file
 
 
-# -- the new folder, for its owner alone, whole or not at all
+# -- what is done with it
 
-def file_parts(kind: str, rows: Iterable[list[str]]) -> list[tuple[str, bytes, int]]:
-    """The rows in files of a length that an import takes, each with its name and the count of its rows."""
-    header = files.file_of(kind, [])
-    parts, size = [[header]], len(header)
-    for line in (encoded(files.written([row])) for row in rows):
-        if size + len(line) > files.MOST_BYTES:
-            parts.append([header])
-            size = len(header)
-        parts[-1].append(line)
-        size += len(line)
-    return [(f"{kind}.csv" if place == 1 else f"{kind}-{place}.csv", b"".join(part), len(part) - 1)
-            for place, part in enumerate(parts, 1)]
-
-
-def encoded(text: str) -> bytes:
-    return text.encode("utf-8", "surrogatepass")
-
-
-def refuse_there(target: str) -> str:
-    """The folder in which a new one is to be. Raises `Trouble` where something has its name, or that is not there."""
-    if os.path.lexists(target):
-        raise Trouble(f"{target} is there already; name a new folder")
-    if not os.path.isdir(beside := os.path.dirname(os.path.abspath(target))):
-        raise Trouble(f"the folder {beside} is not there")
-    return beside
-
-
-@contextlib.contextmanager
-def new_folder(target: str) -> Iterator[str]:
-    """A folder for its owner alone, which gets its name when all is in it. Raises `Trouble` where that is there."""
-    making = tempfile.mkdtemp(prefix=".making-", dir=refuse_there(target))
-    try:
-        yield making
-        os.rename(making, os.path.abspath(target))
-    finally:
-        shutil.rmtree(making, ignore_errors=True)
-
-
-def write_folder(target: str, job: Job, lines_name: str) -> list[str]:
-    """Makes the folder with the files and all lines of the reading; gives what is said of each kind. Raises `Trouble`
-    where a line is a mistake."""
-    if job.count("mistake"):
-        raise Trouble("there are mistakes, so nothing is written", target)
-    with new_folder(target) as making:
+def write_folder(target: str, job: Job) -> list[str]:
+    """Makes the folder with the files and all lines of the reading, of which none is a mistake; gives what is said of
+    each kind."""
+    with dumping.new_folder(target) as making:
         text = "".join(f"{plain(line.whole())}\n" for line in job.lines)
-        files.put(os.path.join(making, lines_name), text.encode("utf-8", "backslashreplace"))
-        return [write_kind(making, kind, [record.fields for record in records])
+        files.put(os.path.join(making, LINES), text.encode("utf-8", "backslashreplace"))
+        return [dumping.write_kind(making, kind, [record.fields for record in records])
                 for kind, records in job.records.items()]
 
 
-def write_kind(folder: str, kind: str, rows: Iterable[list[str]]) -> str:
-    """Writes the files of a kind; says how many rows they have, and in which files where these are several."""
-    parts = file_parts(kind, rows)
-    for name, text, _ in parts:
-        files.put(os.path.join(folder, name), text)
-    where = f", in {' and '.join(name for name, *_ in parts)}" if len(parts) > 1 else ""
-    return f"{kind}: {sum(count for *_, count in parts)}{where}"
-
-
-def workbook_of(rows: Rows | None) -> bytes:
-    """An .xlsx of the rows of each kind, or of an example of each, which `read` leaves out."""
-    return ask_child("write", json.dumps(rows).encode())
-
-
-def put_workbook(path: str, rows: Rows | None = None) -> None:
-    """Makes a workbook for its owner alone. Raises `Trouble` where something has its name, or openpyxl is missing."""
-    if not path.endswith(".xlsx"):
-        raise Trouble("the name of the workbook must end in .xlsx")
-    files.put(path, workbook_of(rows))
+def steps_of(job: Job) -> list[Step]:
+    """The imports of what was read, in order. `Trouble` at a mistake, as where nothing was read, or an empty code."""
+    if count := job.count("mistake"):
+        raise Trouble(f"{lists.count(count, 'mistake')}: nothing is changed")
+    if empty := sum(not record.fields[2] for record in job.records.get("candidates", [])):
+        raise Trouble(f"{lists.count(empty, 'candidate')} without an access code: nothing is changed; give --codes too "
+                      "to make them")
+    return [Step(("import", kind, name), text)
+            for kind in files.HEADERS if (rows := [record.fields for record in job.records.get(kind, [])])
+            for name, text, _ in dumping.file_parts(kind, rows)]  # several where they are too many for one

@@ -1,25 +1,63 @@
-"""The rows of a table: which of them count, and what their cells say."""
+"""The tables of a workbook: what their headers say, which of their rows count, and what their cells say."""
 import functools
 import re
 from collections.abc import Iterator, Mapping
-from dataclasses import replace
+from dataclasses import dataclass
+from functools import partialmethod
 
-from exam_desk import files
+from exam_desk import files, mistakes
 from exam_desk.office import Trouble
-from exam_desk.workbook.cells import MOST_MERGED, Cell, letters_of, place_name
-from exam_desk.workbook.headers import HEADER_WORDS, MARKED, Given, find_header, folded, seen, text_cells
-from exam_desk.workbook.tables import Headed, Record
-from exam_desk.workbook.values import AS_TEXT, MAY_BE_EMPTY, NO_DAY, STRUCK, UNREAD, Wrong, bare, mark_of, shown_of
+from exam_desk.workbook.cells import MOST_MERGED, Cell, Sheet, letters_of, place_name
+from exam_desk.workbook.headers import (HEADER_WORDS, MARKED, OF_PEOPLE, Given, Header, find_header, folded,
+                                        heads_of, is_called_list, seen)
+from exam_desk.workbook.tables import Job, Record
+from exam_desk.workbook.values import (AS_TEXT, MAY_BE_EMPTY, NEAR, NO_DAY, SHORT_FEATURES, STRUCK, UNREAD, Wrong, bare,
+                                       mark_of, shown_of)
 from exam_desk.words import FEATURES
 
 TOTAL = re.compile("(totals?|summe)([ :].*)?|(grand total|subtotal|gesamt|anzahl|sum|count)([ :]+[0-9.,]*)?")
 EXAMPLE = "e.g. "  # before the first value of the template's example
 ANY_HEADER = set[str]().union(*HEADER_WORDS.values())
+CROSSES = {"entries": "correct the code of the paper, or delete the column",  # what cures crosses that are not read
+           "candidates": "put papers on a sheet Entries, and needs on a sheet Arrangements, with the numbers"}
+ONE_WAY = "say in one way who sits what: by crosses, by a column paper, or by a sheet for each paper"
 Row = Mapping[int, Cell | None]  # by column, what is read of a row
 
 
-class Table(Headed):
-    """A table, whose rows are read."""
+@dataclass
+class Table:
+    """A sheet whose header says where the rows of a kind stand."""
+
+    job: Job
+    kind: str
+    sheet: Sheet
+    header: Header
+    paper: str = ""  # the paper whose candidates the sheet lists, or ''
+
+    def __post_init__(self) -> None:
+        rows, row = self.sheet.rows, self.header.row
+        self.head, self.last = rows[row], max(rows)
+        self.below = {other: rows[other] for other in sorted(rows) if other > row}
+        fixed = self.job.of_kind(self.kind).fixed
+        self.fixed = {**fixed, "paper": self.paper} if self.paper else fixed  # of a column a value for all rows
+        self.places = {place for places in self.header.columns.values() for place in places}  # columns that are read
+        self.firsts = [next(iter(self.header.columns.get(name, [])), None) for name in files.HEADERS[self.kind]]
+        self.marks: dict[int, str] = {}  # of a column of crosses its feature or paper
+        self.above: dict[int, int] = {}  # of a column the last row that was looked at and has a value there
+        may_be_marked = MARKED.get(self.kind) not in (None, *self.header.columns, *self.fixed)
+        for place, cell in self.head.items() if may_be_marked else ():
+            name = self.job.paper(cell) if self.kind == "entries" else SHORT_FEATURES.get(folded(cell.text[:200]))
+            if name and place not in self.places:
+                self.marks[place] = name
+                self.header.twice.setdefault(name, []).append(place)
+        self.places |= self.marks.keys()
+
+    def tell(self, sort: str, row: int | None, column: int | None, text: str, what: str = "") -> None:
+        self.job.tell(sort, text, self.sheet, row, column, what)
+
+    mistake = partialmethod(tell, "mistake")
+    change = partialmethod(tell, "change")
+    note = partialmethod(tell, "note")
 
     def records(self) -> list[Record]:
         self.tell_header()
@@ -31,6 +69,105 @@ class Table(Headed):
         if not found:
             self.note(None, None, f"has no {self.kind}; no file of them is written")
         return found
+
+    # -- lines on the header
+
+    def tell_header(self) -> None:
+        row, marks = self.header.row, ", ".join(self.marks.values())
+        if self.paper:
+            self.note(None, None, f"bears the name of a paper: whom it lists is entered for {self.paper}")
+        elif self.kind == "entries" and self.job.way.is_command and is_called_list(self.sheet.name):
+            self.mistake(None, None, "is called a list of entries to be withdrawn or reinstated: save it as CSV for "
+                         "`office withdraw --list FILE.csv`, or call it Entries if they are to be entered")
+        if min(self.sheet.rows) < row:
+            self.note(row, None, "is taken as the header; what stands above it is not read")
+        if marks:
+            self.note(row, min(self.marks), f"crosses below {marks} are read as {MARKED[self.kind]}")
+        self.tell_names()
+        self.tell_lacking()
+        self.tell_columns()
+
+    def tell_names(self) -> None:
+        """From which columns values are read, where a header has another word, or two could be one."""
+        read = {name: " with ".join(repr(self.head[place].text.strip()) for place in places)
+                for name, places in self.header.columns.items()}
+        others = {name: shown for name, shown in read.items() if shown.lower() != repr(name)}
+        for name in filter(read.__contains__, self.fixed):
+            text = f"{name} is read from this column, and is not always {self.fixed[name]} as the file of columns says"
+            self.note(self.header.row, self.header.columns[name][0], text)
+        if others:
+            verb = "columns {} are" if len(others) > 1 else "the column {} is"
+            text = f"{verb.format(', '.join(others))} read from {', '.join(others.values())}"
+            self.note(self.header.row, None, text)
+        for name, places in self.header.twice.items():
+            if len(places) > 1:
+                columns = ", ".join(map(letters_of, places))
+                self.mistake(self.header.row, places[1], f"columns {columns} could all be {name}: keep one header, or "
+                             "say which in a file of columns")
+
+    def tell_lacking(self) -> None:
+        """The columns of the kind that the sheet does not have."""
+        asked, there = self.job.of_kind(self.kind).headers, {*self.header.columns, *self.fixed}
+        if self.marks:
+            there.add(MARKED[self.kind])
+        for name in [name for name in files.HEADERS[self.kind] if name not in there]:
+            if name == "code" and name not in asked:
+                self.note(self.header.row, None, "there is no column code")
+                continue
+            why = f", which the file of columns calls {asked[name]}" if name in asked else ""
+            self.mistake(self.header.row, None, f"the column {name} is missing{why}: add it ({mistakes.CURES[name]})")
+
+    def tell_columns(self) -> None:
+        """What is wrong with a column, or that it is hidden or not read."""
+        row, columns = self.header.row, {place: dict[int, Cell]() for place in self.head}
+        for line, place, cell in ((line, *each) for line, cells in self.below.items() for each in cells.items()):
+            if seen(cell):
+                columns.setdefault(place, {})[line] = cell
+        for place, cells in sorted(columns.items()):
+            head = self.head.get(place)
+            if wrong := self.fault_of(place, head, cells):
+                self.mistake(row, place, wrong)
+            elif place in self.places and any(first <= place <= last for first, last in self.sheet.hidden_columns):
+                self.note(row, place, f"column {letters_of(place)} is hidden; it is read")
+            elif place not in self.places:
+                name = repr(shown_of(head).strip()) if head else "with no header"
+                self.note(row if head else min(cells), place, f"the column {name} is not read")
+
+    def fault_of(self, place: int, head: Cell | None, cells: Mapping[int, Cell]) -> str:
+        """What is wrong with a column that has this header, or none, and these cells below it; or ''."""
+        said = head.text.strip() if head else ""
+        if head and head.kind in UNREAD:
+            return f"its header is {UNREAD[head.kind]}"
+        if place in self.places:
+            why = f"the header {said!r} is struck out: delete the column, or take the line away if it counts"
+            return why if head and head.struck else ""
+        is_list = is_called_list(said)
+        for row, cell in cells.items() if self.kind == "entries" else ():
+            if is_called_list(cell.text) or is_list and mark_of(cell) != "no":
+                where = place_name(self.sheet, row, place)
+                return f"{where} seems to say that an entry is withdrawn: delete each such row, then the column"
+        if self.paper and folded(said) in HEADER_WORDS["entries", "paper"] - {"code"}:
+            return f"{said!r} names papers, as the sheet does: delete the column, or call the sheet Entries"
+        return self.fault_of_crosses(place, head, said, cells)
+
+    def fault_of_crosses(self, place: int, head: Cell | None, said: str, cells: Mapping[int, Cell]) -> str:
+        """What is wrong with crosses that are not read; numbers are some where there is nothing else than 1 and 0."""
+        word = folded(said)
+        name, is_code = SHORT_FEATURES.get(word) or NEAR.get(word), files.is_code(said.encode("utf-8", "replace"))
+        is_paper = self.job.paper(head)
+        matters = {"entries": is_paper or self.marks and word not in OF_PEOPLE,
+                   "candidates": is_code or is_paper or word in SHORT_FEATURES}
+        if not matters.get(self.kind, self.kind in MARKED and name):
+            return ""
+        marks = {row: mark_of(cell) for row, cell in cells.items()}
+        crosses = [row for row, mark in marks.items()
+                   if mark == "yes" and (cells[row].kind != "number" or all(marks.values()))]
+        if not crosses:
+            return ""
+        cure = ONE_WAY if is_paper and self.kind == "entries" else CROSSES.get(
+            self.kind, f"call it {name}, and keep no column {MARKED.get(self.kind)} beside it")
+        what, where = repr(said) if said else "a column with no header", place_name(self.sheet, crosses[0], place)
+        return f"{what} has crosses ({where}) which are not read: {cure}"
 
     # -- which rows count
 
@@ -114,9 +251,9 @@ class Table(Headed):
 
     def begins_other(self, row: int, cells: dict[int, Cell]) -> str:
         """The kind of the second table that begins in a row, or ''."""
-        if len(ANY_HEADER.intersection(map(folded, text_cells(cells).values()))) < 2:
+        if len(ANY_HEADER & heads_of(cells).keys()) < 2:
             return ""
-        alone = replace(self.sheet, rows={row: cells})
+        alone = Sheet("", rows={row: cells})
         return next((kind for kind in files.HEADERS if find_header(kind, alone, Given())), "")
 
     def says_total(self, cells: dict[int, Cell], here: Row) -> bool:
@@ -148,7 +285,7 @@ class Table(Headed):
         return [Record(self.sheet, row, self.firsts, fields)]
 
     def note_looks(self, row: int, here: Row) -> None:
-        for place, cell in sorted(self.sheet.rows[row].items()):
+        for place, cell in self.sheet.rows[row].items():
             if cell.formula and place in here and cell.kind not in UNREAD:
                 self.note(row, place, "is a formula, whose last result is read", "formula")
             elif cell.struck and place not in here:

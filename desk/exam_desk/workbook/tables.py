@@ -1,4 +1,4 @@
-"""Where the tables of a workbook stand, and the lines on it: changes, notes and mistakes, each with its place."""
+"""One reading of a workbook, and the lines on it: changes, notes and mistakes, each with its place."""
 import functools
 import itertools
 import re
@@ -8,12 +8,11 @@ from dataclasses import dataclass, field
 from functools import partial, partialmethod
 from typing import NamedTuple
 
-from exam_desk import files, mistakes
+from exam_desk import mistakes
 from exam_desk.office import Trouble
 from exam_desk.workbook.cells import Cell, Sheet, letters_of, place_name
-from exam_desk.workbook.headers import HEADER_WORDS, MARKED, OF_PEOPLE, Given, Header, folded, is_called_list, seen
-from exam_desk.workbook.values import (NEAR, SHORT_FEATURES, UNREAD, Value, Way, Wrong, mark_of, read_value,
-                                           shown_of)
+from exam_desk.workbook.headers import Given
+from exam_desk.workbook.values import Way, Wrong, read_value
 
 WORDS = {"change": "", "note": "NOTE: ", "mistake": "MISTAKE: "}  # in the order in which they are printed
 MOST_PLACES = 5  # of lines that stand together
@@ -21,9 +20,6 @@ MOST_TEXTS = 3  # of one kind that have a line each
 MOST_VALUES = 50_000  # that are kept, lest they are read again
 MOST_LINES = 500_000  # on a workbook
 PARTICULAR = re.compile(r"[0-9]|\b[A-Z][A-Z-]+\b")  # in words that are numbers, dates or codes
-CROSSES = {"entries": "correct the code of the paper, or delete the column",  # what cures crosses that are not read
-           "candidates": "put papers on a sheet Entries, and needs on a sheet Arrangements, with the numbers"}
-Progress = Callable[[str], None]
 
 
 class Line(NamedTuple):
@@ -91,13 +87,13 @@ class Job:
     leave: list[str] = field(default_factory=list)  # sheets that are not read
     together: list[str] = field(default_factory=list)  # all sheets of such a kind are one list
     hidden: str = ""  # take or leave: what becomes of hidden rows
+    progress: Callable[[str], None] = lambda text: None  # hears what is being read
     papers: set[str] = field(default_factory=set)  # codes that the office or the workbook has
     records: dict[str, list[Record]] = field(default_factory=dict)  # by kind; those with a mistake are not written
     lines: list[Line] = field(default_factory=list)
 
     def __post_init__(self) -> None:
-        read = partial(read_value, way=self.way)
-        self.value: Callable[[str, Cell | None], Value] = functools.lru_cache(MOST_VALUES)(read)
+        self.value = functools.lru_cache(MOST_VALUES)(partial(read_value, way=self.way))
 
     def tell(self, sort: str, text: str, sheet: Sheet | None = None, row: int | None = None,
              column: int | None = None, what: str = "") -> None:
@@ -126,137 +122,3 @@ class Job:
         """The paper whose code a cell has, or ''."""
         code = self.said("paper", cell)
         return code if code in self.papers else ""
-
-
-@dataclass
-class Headed:
-    """A sheet whose header says where the rows of a kind stand."""
-
-    job: Job
-    kind: str
-    sheet: Sheet
-    header: Header
-    paper: str = ""  # the paper whose candidates the sheet lists, or ''
-
-    def __post_init__(self) -> None:
-        rows, row = self.sheet.rows, self.header.row
-        self.head, self.last = rows[row], max(rows)
-        self.below = {other: rows[other] for other in sorted(rows) if other > row}
-        fixed = self.job.of_kind(self.kind).fixed
-        self.fixed = {**fixed, "paper": self.paper} if self.paper else fixed  # of a column a value for all rows
-        self.places = {place for places in self.header.columns.values() for place in places}  # columns that are read
-        self.firsts = [next(iter(self.header.columns.get(name, [])), None) for name in files.HEADERS[self.kind]]
-        self.marks: dict[int, str] = {}  # of a column of crosses its feature or paper
-        self.above: dict[int, int] = {}  # of a column the last row that was looked at and has a value there
-        free = {place: cell for place, cell in self.head.items() if place not in self.places}
-        if MARKED.get(self.kind) in (None, *self.header.columns, *self.fixed):
-            return
-        for place, cell in free.items():
-            name = self.job.paper(cell) if self.kind == "entries" else SHORT_FEATURES.get(folded(cell.text[:200]))
-            if name:
-                self.marks[place] = name
-                self.header.twice.setdefault(name, []).append(place)
-        self.places |= set(self.marks)
-
-    def tell(self, sort: str, row: int | None, column: int | None, text: str, what: str = "") -> None:
-        self.job.tell(sort, text, self.sheet, row, column, what)
-
-    mistake = partialmethod(tell, "mistake")
-    change = partialmethod(tell, "change")
-    note = partialmethod(tell, "note")
-
-    # -- lines on the header
-
-    def tell_header(self) -> None:
-        row, marks = self.header.row, ", ".join(self.marks.values())
-        if self.paper:
-            self.note(None, None, f"bears the name of a paper: whom it lists is entered for {self.paper}")
-        elif self.kind == "entries" and self.job.way.is_command and is_called_list(self.sheet.name):
-            self.mistake(None, None, "is called a list of entries to be withdrawn or reinstated: save it as CSV for "
-                         "`office withdraw --list FILE.csv`, or call it Entries if they are to be entered")
-        if min(self.sheet.rows) < row:
-            self.note(row, None, "is taken as the header; what stands above it is not read")
-        if marks:
-            self.note(row, min(self.marks), f"crosses below {marks} are read as {MARKED[self.kind]}")
-        self.tell_names()
-        self.tell_lacking()
-        self.tell_columns()
-
-    def tell_names(self) -> None:
-        """From which columns values are read, where a header has another word, or two could be one."""
-        read = {name: " with ".join(repr(self.head[place].text.strip()) for place in places)
-                for name, places in self.header.columns.items()}
-        others = {name: shown for name, shown in read.items() if shown.lower() != repr(name)}
-        for name in self.fixed.keys() & read.keys():
-            text = f"{name} is read from this column, and is not always {self.fixed[name]} as the file of columns says"
-            self.note(self.header.row, self.header.columns[name][0], text)
-        if others:
-            verb = "columns {} are" if len(others) > 1 else "the column {} is"
-            text = f"{verb.format(', '.join(others))} read from {', '.join(others.values())}"
-            self.note(self.header.row, None, text)
-        for name, places in self.header.twice.items():
-            if len(places) > 1:
-                columns = ", ".join(map(letters_of, places))
-                self.mistake(self.header.row, places[1], f"columns {columns} could all be {name}: keep one header, or "
-                             "say which in a file of columns")
-
-    def tell_lacking(self) -> None:
-        """The columns of the kind that the sheet does not have."""
-        asked, there = self.job.of_kind(self.kind).headers, {*self.header.columns, *self.fixed}
-        if self.marks:
-            there.add(MARKED[self.kind])
-        for name in [name for name in files.HEADERS[self.kind] if name not in there]:
-            if name == "code" and name not in asked:
-                self.note(self.header.row, None, "there is no column code")
-                continue
-            why = f", which the file of columns calls {asked[name]}" if name in asked else ""
-            self.mistake(self.header.row, None, f"the column {name} is missing{why}: add it ({mistakes.CURES[name]})")
-
-    def tell_columns(self) -> None:
-        """What is wrong with a column, or that it is hidden or not read."""
-        row, columns = self.header.row, {place: dict[int, Cell]() for place in self.head}
-        for line, place, cell in ((line, *each) for line, cells in self.below.items() for each in cells.items()):
-            if seen(cell):
-                columns.setdefault(place, {})[line] = cell
-        for place, cells in sorted(columns.items()):
-            head = self.head.get(place)
-            if wrong := self.fault_of(place, head, cells):
-                self.mistake(row, place, wrong)
-            elif place in self.places and any(first <= place <= last for first, last in self.sheet.hidden_columns):
-                self.note(row, place, f"column {letters_of(place)} is hidden; it is read")
-            elif place not in self.places:
-                name = repr(shown_of(head).strip()) if head else "with no header"
-                self.note(row if head else min(cells), place, f"the column {name} is not read")
-
-    def fault_of(self, place: int, head: Cell | None, cells: Mapping[int, Cell]) -> str:
-        """What is wrong with a column that has this header, or none, and these cells below it; or ''."""
-        said = head.text.strip() if head else ""
-        if head and head.kind in UNREAD:
-            return f"its header is {UNREAD[head.kind]}"
-        if place in self.places:
-            why = f"the header {said!r} is struck out: delete the column, or take the line away if it counts"
-            return why if head and head.struck else ""
-        is_list = is_called_list(said)
-        withdrawn = [row for row, cell in cells.items()
-                     if is_called_list(cell.text) or is_list and mark_of(cell) != "no"]
-        if self.kind == "entries" and withdrawn:
-            where = place_name(self.sheet, withdrawn[0], place)
-            return f"{where} seems to say that an entry is withdrawn: delete each such row, then the column"
-        if self.paper and folded(said) in HEADER_WORDS["entries", "paper"] - {"code"}:
-            return f"{said!r} names papers, as the sheet does: delete the column, or call the sheet Entries"
-        return self.fault_of_crosses(place, head, cells)
-
-    def fault_of_crosses(self, place: int, head: Cell | None, cells: Mapping[int, Cell]) -> str:
-        """What is wrong with crosses that are not read; numbers are some where there is nothing else than 1 and 0."""
-        said = head.text.strip() if head else ""
-        word, marks = folded(said), {row: mark_of(cell) for row, cell in cells.items()}
-        crosses = [row for row, mark in marks.items()
-                   if mark == "yes" and (cells[row].kind != "number" or all(marks.values()))]
-        name, is_code = SHORT_FEATURES.get(word) or NEAR.get(word), files.is_code(said.encode("utf-8", "replace"))
-        matters = {"entries": self.marks and word not in OF_PEOPLE,
-                   "candidates": is_code or self.job.paper(head) or word in SHORT_FEATURES}
-        if not crosses or not matters.get(self.kind, self.kind in MARKED and name):
-            return ""
-        cure = CROSSES.get(self.kind, f"call it {name}, and keep no column {MARKED.get(self.kind)} beside it")
-        what, where = repr(said) if said else "a column with no header", place_name(self.sheet, crosses[0], place)
-        return f"{what} has crosses ({where}) which are not read: {cure}"

@@ -113,7 +113,7 @@ def read_value(column: str, cell: Cell | None, way: Way) -> Value:
     if found.kind == "number" and column != "reserved":
         refuse_other_digits(column, found)
     value = read(column, found, text, way)
-    if not mistakes.RIGHT[column](value.text.encode("utf-8", "surrogatepass")) and (value.text or column != "code"):
+    if not files.RIGHT[column](files.encoded(value.text)) and (value.text or column != "code"):
         said = "has seconds: " if SECONDS.search(text) else ""
         needed = mistakes.needed(column, value.text.encode("utf-8", "replace"))
         raise Wrong(said + needed if cell else "is missing")
@@ -123,9 +123,10 @@ def read_value(column: str, cell: Cell | None, way: Way) -> Value:
 def refuse_other_digits(column: str, cell: Cell) -> None:
     """Raises `Wrong` where a number is shown as other digits: 17 under the format "2027"000 is shown as 2027017. A code
     is all that is shown."""
-    shown = re.sub(r"[^0-9.,-]", "", GROUPS.sub("", cell.shown)).strip(".,").replace(",", ".")
+    shown = [re.sub(r"[^0-9.,-]", "", text).strip(".,").replace(",", ".")
+             for text in (cell.shown, GROUPS.sub("", cell.shown))]
     has_more = column in mistakes.CODES and re.search("[^0-9., ]", cell.shown)
-    if has_more or not NUMBER.fullmatch(shown) or decimal.Decimal(shown) != decimal.Decimal(cell.text):
+    if has_more or decimal.Decimal(cell.text) not in map(decimal.Decimal, filter(NUMBER.fullmatch, shown)):
         how = f"shown as {cell.shown}" if cell.shown else "shown by a format of its own"
         raise Wrong(f"is the number {cell.text}, but {how}: type what counts as text")
 
@@ -176,7 +177,7 @@ def mark_of(cell: Cell | None) -> str:
 def read_number(column: str, cell: Cell, text: str, way: Way) -> Value:
     quoted = cell.kind == "text" and text.startswith(QUOTES)
     digits = text[1:] if quoted else text
-    padded = mistakes.with_zeros(digits.encode("utf-8", "surrogatepass")).decode("utf-8", "surrogatepass")
+    padded = mistakes.with_zeros(files.encoded(digits)).decode("utf-8", "surrogatepass")
     if re.fullmatch(r"[0-9]{1,3}([ ,.'’][0-9]{3})+", digits):
         raise Wrong(f"marks between the digits: write {re.sub('[^0-9]', '', digits).zfill(7)} if that is meant")
     if re.fullmatch(r"[0-9]{8,}", digits):
@@ -326,8 +327,7 @@ def read_whole(column: str, cell: Cell, text: str, way: Way) -> Value:
     return Value(number, done, "is 1 percent; 100 percent is 100" * ((column, number) == ("extra", "1")))
 
 
-Reader = Callable[[str, Cell, str, Way], Value]  # of a column, a cell, its letters and what the officer said
-READERS: dict[str, tuple[Reader, str]] = {  # with the kinds of cells that a column takes
+READERS: dict[str, tuple[Callable[[str, Cell, str, Way], Value], str]] = {  # with the kinds of cells that it takes
     "number": (read_number, "text number"), "date": (read_date, "text number date"),
     "reserved": (read_yes, "text number bool"),
     **dict.fromkeys(["session", "paper", "hall", "code"], (read_code, "text number")),

@@ -173,8 +173,8 @@ def wrong_lines(case: Case, done: Done) -> list[str]:
 
 
 def wrong_manners(case: Case, done: Done) -> list[str]:
-    wrong = [f"the complaint lacks {word!r}" for word in case.expected.get("stderr", [])
-             if word not in done.complaint + done.out]
+    said = (done.complaint + done.out).replace(case.file, "the file")  # whose name often has the word
+    wrong = [f"the complaint lacks {word!r}" for word in case.expected.get("stderr", []) if word not in said]
     if "Traceback" in done.complaint:
         wrong.append("a traceback: " + done.complaint.strip().split("\n")[-1])
     if CONTROLS.search(done.out + done.complaint):

@@ -44,6 +44,8 @@ def in_openings(name: str, *cells: str, **more: Any) -> None:
     ods_case("Openings", OPENINGS, name, ods_row(*cells), **more)
 
 
+in_candidates("column-hidden-behind-two", ods_row(*ADA), files=A, told=[["Candidates!C1", "column C is hidden; it is read"], ["", "1 note"]],
+     columns='<table:table-column table:number-columns-repeated="2"/><table:table-column table:visibility="collapse"/>')
 case("hidden-by-header", xlsx(candidates(ADA), sheet("Data", SESSIONS, ["S1", "2027-06-01", "09:00"],
      state="hidden")), 1, only=True, mistakes=[["Data", "hidden"]])
 case("hidden-other-by-header", xlsx(sheet("x", CANDIDATES, ADA), sheet("Candidates", CANDIDATES, BO,
@@ -66,6 +68,9 @@ case("paper-header-format-other", xlsx(sheet("Papers", PAPERS, ["7", "Maths", "S
      files={"papers":["7,Maths,S1,90,-", "007,Maths,S1,90,-"], "entries":["0000001,007"]})
 case("candidates-crossed-dash", xlsx(TWO_PAPERS, sheet("Candidates", [*CANDIDATES, "MA\u20131"], [*ADA, "x"])), 1,
      only=True, mistakes=[["Candidates!D1", "Entries"]])
+case("toml-name-of-two-and-twice", b"number,Forename,forename,Surname,code\n1,Ada,Ida,Lin,CODE0001\n", 1, suffix="csv",
+     beside={"columns.toml":'[candidates]\nname = ["Forename", "Surname"]\n'}, args=["--columns", "{here}/columns.toml"], only=True,
+     mistakes=[["'further-toml-name-of-two-and-twice'!C1", "columns B, C could all be name"]])
 case("toml-code-not-there", "Nr;Name;Kennwort\n17;Ada Lin;CODE0001\n".encode(), 1, suffix="csv",
      beside={"columns.toml":'[candidates]\nnumber = "Nr"\nname = "Name"\ncode = "Web code"\n'}, args=["--columns",
      "{here}/columns.toml"], mistakes=[["'further-toml-code-not-there'!1", "Web code"]])

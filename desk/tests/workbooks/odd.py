@@ -133,8 +133,8 @@ case("features-by-other-names", xlsx(sheet("Halls", ["Room", "Name", "Capacity",
      mistakes=[["Halls!E1", "'Computers' has crosses", "call it computer"], ["Arrangements!C1", "call it step-free"]], told=[["Halls!C1", "not read"]])
 case("entries-with-a-state", xlsx(TWO_PAPERS, sheet("Entries", [*ENTRIES, "status"], ["0000001", "MA-1", "entered"], ["0000002", "FR", "WITHDRAWN"])), 1,
      only=True, mistakes=[["Entries!C1", "Entries!C3", "withdrawn"]])
-case("entries-withdrawn", xlsx(TWO_PAPERS, sheet("Entries", [*ENTRIES, "Withdrawn?"], ["0000001", "MA-1", "no"], ["0000002", "FR", "x"])), 1,
-     only=True, mistakes=[["Entries!C1", "Entries!C3", "withdrawn"]])
+case("entries-withdrawn", xlsx(TWO_PAPERS, sheet("Entries", [*ENTRIES, "Withdrawn?", "abgemeldet"], ["0000001", "MA-1", "no", None], ["0000002", "FR", "x", "x"])), 1,
+     only=True, mistakes=[["Entries!C1", "Entries!C3", "withdrawn"], ["Entries!D1", "Entries!D3", "withdrawn"]])
 case("entries-none-withdrawn", xlsx(TWO_PAPERS, sheet("Entries", [*ENTRIES, "Withdrawn", "Form"], ["0000001", "MA-1", "no", "11A"], ["0000002", "FR", None, "11B"])),
      files={"papers": ["MA-1,Maths,S1,90,-", "FR,French,S1,60,-"], "entries": ["0000001,MA-1", "0000002,FR"]}, told=[["Entries!C1", "not read"], ["Entries!D1", "not read"]])
 
@@ -169,6 +169,9 @@ case("numbers-by-plain-formats", xlsx(candidates([("n", "1", ""), *ADA[1:]], [("
      files={"candidates": [ADA_LINE, BO_LINE]}, told=[["Candidates!A3", "number +2 became 0000002"]])
 case("zero-and-minus-by-sections", xlsx(sheet("Arrangements", ARRANGEMENTS, ["0000001", "quiet", ("n", "0", '0;0;"-"')],
      ["0000002", "quiet", ("n", "-4", '0;0;"-"')])), 1, only=True, mistakes=[["Arrangements!C2", "shown as -:"], ["Arrangements!C3", "shown as 4:"]])
+case("numbers-with-three-places", xlsx(sheet("Halls", HALLS, ["A", ("n", "1.018", "0.000"), "-"], ["B", ("n", "1018", '"1."000'), "-"],
+     ["C", ("n", "1018", "#,##0"), "-"])), 1, only=True, mistakes=[["Halls!B3", "is the number 1018, but shown as 1.1018"]],
+     told=[["Halls!B2", "title 1.018 is a number in the workbook"], ["Halls!B4", "title 1,018 is a number"]])
 case("codes-in-brackets", xlsx(sheet("Halls", HALLS, [("n", "101", "[Red]0"), "A", "-"], [("n", "102", "[$\u20ac-407]0"), "B", "-"])), 1,
      only=True, mistakes=[["Halls!A3", "shown as \u20ac102:"]])
 case("number-without-zeros", xlsx(candidates([("n", "1", "#"), *ADA[1:]])), files={"candidates": [ADA_LINE]},
@@ -192,7 +195,7 @@ case("columns-of-half-a-kind", xlsx(sheet("Plan", ["Termin", "Raum"], ["S1", "A"
 case("paper-called-like-a-session", xlsx(sheet("Sessions", SESSIONS, ["S1", "2027-06-01", "09:00"]), sheet("Papers", PAPERS, ["S1", "M", "S1", 90, "-"]),
      sheet("Openings", OPENINGS, ["S1", "A", 10, ("n", "46539.5", "dd/mm/yyyy hh:mm"), "no"])), files={
          "sessions": ["S1,2027-06-01,09:00"], "papers": ["S1,M,S1,90,-"], "openings": ["S1,A,10,12:00,no"]})
-case("header-alone", xlsx(candidates()), 1, mistakes=[["", "no sheet has rows of one of the seven kinds"]],
+case("header-alone", xlsx(candidates()), 1, mistakes=[["", "no sheet has rows of one of the seven kinds: see `office template`"]],
      told=[["Candidates", "has no candidates; no file of them is written"]])
 case("empty-sheet", xlsx(candidates(ADA), sheet("Halls")), files={"candidates": [ADA_LINE]}, quiet=True)
 
@@ -200,6 +203,10 @@ case("empty-sheet", xlsx(candidates(ADA), sheet("Halls")), files={"candidates": 
 PUPILS = sheet("Pupils", CANDIDATES, BO)
 case("sheet-named", xlsx(candidates(ADA), PUPILS), files={"candidates": [ADA_LINE]}, args=["--sheet", "Candidates"],
      told=[["Pupils", "is not read, as you said"]])
+case("list-of-a-paper-hidden", xlsx(TWO_PAPERS, sheet("FR", ["number"], ["0000001"], state="hidden")), 1, only=True,
+     mistakes=[["FR", "is hidden: show it if it has the entries"]])
+case("one-list-of-a-paper-hidden", xlsx(TWO_PAPERS, sheet("FR", ["number"], ["0000001"], state="hidden"), sheet("MA-1", ["number"], ["0000001"])),
+     files={"papers": ["MA-1,Maths,S1,90,-", "FR,French,S1,60,-"], "entries": ["0000001,MA-1"]}, told=[["FR", "is hidden, so it is not read"]])
 case("sheet-named-and-hidden", xlsx(candidates(ADA), PUPILS | {"state": "hidden"}), files={"candidates": [BO_LINE]}, args=["--sheet", "Pupils"])
 case("sheets-that-are-not-there", xlsx(candidates(ADA)), 1, args=["--sheet", "Pupils", "--leave", "candidates"],
      mistakes=[["", "there is no sheet Pupils, candidates; there are: Candidates"]])
@@ -256,6 +263,10 @@ case("day-12-beside-a-text", xlsx(sheet("Sessions", SESSIONS, ["S1", ("n", "4655
      1, mistakes=[["Sessions!B2", "2027-06-12", "a mixture"]])
 case("entries-with-crosses-beside", xlsx(TWO_PAPERS, sheet("Entries", [*ENTRIES, "Paid"], ["0000001", "MA-1", "x"])),
      files={"papers": ["MA-1,Maths,S1,90,-", "FR,French,S1,60,-"], "entries": ["0000001,MA-1"]}, told=[["Entries!C1", "not read"]])
+case("entries-with-crosses-of-papers-beside", xlsx(TWO_PAPERS, sheet("Entries", [*ENTRIES, "FR"], ["0000001", "MA-1", "x"])), 1, only=True,
+     mistakes=[["Entries!C1", "'FR' has crosses (Entries!C2) which are not read: say in one way who sits what"]])
+case("list-of-a-paper-with-crosses-beside", xlsx(TWO_PAPERS, sheet("MA-1", ["number", "FR", "Paid"], ["0000001", "x", "x"])), 1, only=True,
+     mistakes=[["'MA-1'!B1", "'FR' has crosses"]], told=[["'MA-1'!C1", "not read"]])
 case("entries-with-words-on-withdrawals", xlsx(TWO_PAPERS, sheet("Entries", [*ENTRIES, "Withdrawn"], ["0000001", "MA-1", "no"],
      ["0000002", "MA-1", "in March"])), 1, only=True, mistakes=[["Entries!C1", "Entries!C3 seems to say"]])
 case("column-in-capitals-and-hidden", xlsx(sheet("Candidates", [*CANDIDATES, "FORM"], [*ADA, "7a"], hidden_columns=[4])), files={"candidates": [ADA_LINE]},
