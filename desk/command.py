@@ -63,6 +63,9 @@ def parser_of(name: str, words: Sequence[str]) -> Parser:
 
         def error(self, message: str) -> NoReturn:
             super().error(plain(message))
+
+        def print_help(self, file: object = None) -> None:
+            say(self.format_help())  # newer ones of argparse pass over an output that is closed or full
     sys.argv = [OFFICE, *words]  # where a parser looks for them
     return Plain(prog=f"office {name}", description=COMMANDS[name].text,
                  formatter_class=argparse.RawDescriptionHelpFormatter)
