@@ -57,6 +57,7 @@ def named(text: str, changes: bool = False) -> Callable[[Run], Run]:
 def parser_of(name: str, words: Sequence[str]) -> Parser:
     """The parser of a command of the desk, which takes these words."""
     import argparse  # here, since the program has its own
+    import re
 
     class Plain(argparse.ArgumentParser):
         """Shows words that it does not take, such as names of files, as a terminal may have them."""
@@ -67,8 +68,10 @@ def parser_of(name: str, words: Sequence[str]) -> Parser:
         def print_help(self, file: object = None) -> None:
             say(self.format_help())  # newer ones of argparse pass over an output that is closed or full
     sys.argv = [OFFICE, *words]  # where a parser looks for them
-    return Plain(prog=f"office {name}", description=COMMANDS[name].text,
-                 formatter_class=argparse.RawDescriptionHelpFormatter)
+    parser = Plain(prog=f"office {name}", description=COMMANDS[name].text,
+                   formatter_class=argparse.RawDescriptionHelpFormatter)
+    parser._negative_number_matcher = re.compile("-+[0-9A-Z][0-9A-Z-]*$")  # codes may begin so, and no option does
+    return parser
 
 
 def given_as_typed(parser: Parser, usage: str) -> list[str]:

@@ -189,7 +189,7 @@ def school(parser: command.Parser) -> None:
     given = command.given(parser, "name?")
     office = command.office()
     notebook.set_school_name(office, given.name, given.page)
-    if given.name is not None:
+    if (given.name, given.page) != (None, None):
         command.complain(effects.noted(office))
     address = notebook.school_name(office, notebook.PAGE)
     command.say_lines([notebook.school_name(office) or "no name", *filter(None, [address])])

@@ -11,7 +11,7 @@ from exam_desk.reading import Reading
 from exam_desk.sheets import PAPERS
 
 SCHOOL, OF = "school", ": "  # where others have a code; between a code and what is shown of it
-OF_SCHOOL = f"{SCHOOL}{OF}name"
+OF_SCHOOL = {what: f"{SCHOOL}{OF}{kind}" for what, kind in ((notebook.SCHOOL, "name"), (notebook.PAGE, "page"))}
 EVERYWHERE = {"hall", "date", "start", "hall title"}  # what all papers show
 Papers = dict[str, list[str]]  # which are out of date, each with its halls; none where it is of the whole session
 Other = tuple[str, str, str]  # what is another, its value on paper, and now
@@ -106,7 +106,7 @@ def sum_of(note: str) -> str:
 
 def of_notebook(office: Office) -> dict[str, str]:
     """What papers show of the school and of how desks stand: the values by code and what it is."""
-    return {OF_SCHOOL: notebook.school_name(office),
+    return {**{name: notebook.school_name(office, what) for what, name in OF_SCHOOL.items()},
             **{f"{hall}{OF}rows": str(rows) for hall, rows in notebook.rows_of_halls(office).items()}}
 
 
@@ -134,7 +134,7 @@ def out_of_date(office: Office, moves: Collection[Move], others: Iterable[Other]
     met = {(kind, line.hall) for move in moves for kind in move.kinds() for line in (move.printed, move.now) if line}
     names = {lists.alike(name) for move in moves for name in move.names() if name}
     met |= {("namesakes", line.hall) for line in lines.values() if names and lists.alike(line.name) in names}
-    met |= {(what if what == OF_SCHOOL else what.partition(OF)[2], line.hall) for what, *_ in others
+    met |= {(what if what in OF_SCHOOL.values() else what.partition(OF)[2], line.hall) for what, *_ in others
             for line in lines.values() if is_of(what, [line.hall], [line.paper])}
     drawn, found = notebook.rows_of_halls(office), Papers()
     for name, paper in PAPERS.items():

@@ -47,10 +47,10 @@ def copy_of(key: str) -> str:
 @pages.get("/office")
 def page() -> str:
     found = [(copy_key(path), *copies.when_and_what(path), copies.is_brought(path)) for path in paths()]
-    school = ""
-    with contextlib.suppress(Trouble):  # its file is damaged: what changes the name says so
-        school = notebook.school_name(desk().office)
-    return render_template("office.html", copies=found, keep=turns.keep_state(desk().office), school=school,
+    school = address = ""
+    with contextlib.suppress(Trouble):  # a file is damaged: what changes the name says so
+        school, address = about_school()
+    return render_template("office.html", copies=found, keep=turns.keep_state(desk().office), school=school, address=address,
                            log=done_since(desk().office, "")[:-MOST_LINES - 1:-1])
 
 
@@ -120,15 +120,20 @@ def bring() -> Response:
     return lead("office.copy", key=copy_key(g.visit.backup.path))
 
 
+def about_school() -> list[str]:
+    """The name of the school, and the address of the candidates' page."""
+    return [notebook.school_name(desk().office, what) for what in (notebook.SCHOOL, notebook.PAGE)]
+
+
 @pages.post("/office/school")
 def school() -> Response:
-    """Keeps the name of the school, which stands on its papers, or takes it away."""
-    name = request.form.get("name", "").strip()
+    """Keeps the name of the school and the address of the candidates' page, which papers show, or takes them away."""
     with at_field(("office.page", {}), "name"):
-        notebook.set_school_name(office(), as_known(name, notebook.school_name(desk().office)))
+        known = about_school()
+        given = [as_known(request.form.get(field, was).strip(), was) for field, was in zip(("name", "address"), known)]
+        notebook.set_school_name(office(), *(None if new == was else new for new, was in zip(given, known)))
     tell_papers()
-    told = text("The papers of the school have its name now.") if name else text("The school has no name now.")
-    return lead("office.page", told)
+    return lead("office.page", text("It is kept, and stands on what is printed from now on."))
 
 
 @pages.get("/handbook")

@@ -330,7 +330,7 @@ class TestHearing(DeskSchool):
         monday = "/sessions/MON-AM"
         for found, title, said in (
                 (self.done("/candidates/1000/note", "/candidates/1000", note="breaks"), "done: Ada Lin", "The note is kept."),
-                (self.done("/office/school", "/office", name="Hill"), "done: Office", "The papers of the school have"),
+                (self.done("/office/school", "/office", name="Hill"), "done: Office", "It is kept, and stands on what"),
                 (self.done(monday + "/draw", monday, **{"hall": "GYM", "across-GYM": "6", "running-GYM": "down"}),
                  "done: MON-AM", "GYM is drawn so now."),
                 (self.done(monday + "/printed", monday), "done: MON-AM", "58 desks of MON-AM are noted as printed"),
@@ -392,7 +392,7 @@ class TestSchool(DeskSchool):
         self.assertEqual(self.office("school"), '"Hill" & <b>Cö</b>\n')
         self.browser.get("/?piece")  # of another tab: it says nothing
         text = self.browser.get("/office")
-        self.assertIn("The papers of the school have its name now.", text)
+        self.assertIn("It is kept, and stands on what is printed from now on.", text)
         self.assertIn('name="name" value="&#34;Hill&#34; &amp; &lt;b&gt;Cö&lt;/b&gt;"', text)
         self.assertIn("&#34;Hill&#34; &amp; &lt;b&gt;Cö", self.browser.get("/sessions/MON-AM/print/doors"))
         for wrong in ("é" * 41, "x" * 81, "a\nb", "a\x7f"):
@@ -411,6 +411,22 @@ class TestSchool(DeskSchool):
         self.office("school", "\u200fHill")
         self.ask("?Hill")  # as its field has it
         self.assertIn(r"\u200f", pathlib.Path(self.desk, "notebook", "school.json").read_text("ascii"))
+
+
+    def test_the_address_of_the_candidates_page(self):
+        self.office("printed", "MON-AM")
+        form = {"name": "Hill", "address": "https://hill.example"}
+        self.browser.post("/office/school", "/office", **form)
+        self.assertEqual(self.office("school"), "Hill\nhttps://hill.example\n")
+        self.assertIn("School: Address of the candidates' page: – → https://hill.example",
+                      self.browser.words("/sessions/MON-AM/printed"))
+        for wrong in {**form, "address": "a\nb"}, {"name": "x" * 81, "address": ""}:
+            self.browser.post("/office/school", "/office", 422, **wrong)
+        self.browser.post("/office/school", "/office", **form)
+        self.assertEqual(self.office("school"), "Hill\nhttps://hill.example\n")
+        self.assertEqual(self.log().count("school"), 2)  # nothing that is as it was
+        self.browser.post("/office/school", "/office", name="Hill", address="")
+        self.assertEqual(self.office("school"), "Hill\n")
 
 
 class TestLetters(unittest.TestCase):

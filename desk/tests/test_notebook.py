@@ -481,7 +481,8 @@ class Commands(sample.SampleSchool):
                 (("import", "papers", paper), "LAT: paper title Latin -> Latin 1",
                  f"doors, cards of {of_latin}; counts, slips"),
                 (("school", "Hill"), "school: name - -> Hill",
-                 f"doors, signatures, poster of {of_all}; chart of AULA, PC1; board, counts, slips")):
+                 f"doors, signatures, poster of {of_all}; chart of AULA, PC1; board, counts, slips"),
+                (("school", "--page", "https://a.example"), "school: page - -> https://a.example", "slips")):
             self.office("printed", "MON-AM")
             self.assertEqual(self.run_office("rows", "PC1", "6").stderr, "")  # there was no chart of it before
             self.assertEqual(self.office("printed", "MON-AM", "--look"), "the papers are up to date\n")

@@ -116,6 +116,12 @@ class Papers(sample.SampleSchool):
         self.assertEqual([row for row in rows if row[1:] == ["ask the office", ""]],
                          [["Lena Braun", "ask the office", ""], ["Frida Sørensen", "ask the office", ""]])
 
+    def test_codes_may_begin_as_options_do(self):
+        self.office("import", "sessions", self.write("s.csv", "session,date,start\n-A-1,2027-07-01,09:00\n--2,2027-07-01,09:00\n"))
+        for words in ["board", "-A-1"], ["counts", "--2"], ["slips", "-A-1", "--desks"], ["printed", "--2"]:
+            self.assertEqual(self.run_office(*words).returncode, 0, words)
+        self.assertEqual(self.run_office("board", "-a").returncode, 2)
+
     def test_doors(self):
         text = self.office("doors", "MON-AM")
         self.assertEqual(text.count("<div class=sheet>"), 5)

@@ -34,4 +34,4 @@ By name, in two columns, with the hall and the desk. Only namesakes have their n
 A row for each hall and paper, with the last finish and boxes to tick, then the sums by paper. Candidates without a desk
 have rows of their own at the end.""", by_hall=False),
     "slips": Paper("Slips", "desk, name, paper, finish, needs, extra, misses, note, elsewhere, paper title, "
-                   "school: name", by_hall=False)}
+                   "school: name, school: page", by_hall=False)}
