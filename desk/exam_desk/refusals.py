@@ -113,8 +113,10 @@ def holder(office: Office) -> str:
             if (process != os.getpid() and os.path.samefile(path, office.path)
                     and "\nlock:" in pathlib.Path(path.replace("/fd/", "/fdinfo/")).read_text("ascii")):
                 line = pathlib.Path(f"/proc/{process}/cmdline").read_text("utf-8", "replace")
-                words = line.rstrip("\0").replace("\0", " ")
-                return f"process {process} ({words[:MOST_SHOWN]})"
+                words = line.rstrip("\0").split("\0")
+                if "decide" in words:
+                    del words[words.index("decide") + 4:]  # the answer, which is private
+                return f"process {process} ({' '.join(words)[:MOST_SHOWN]})"
     return ""
 
 

@@ -450,6 +450,11 @@ class Causes(sample.SampleSchool):
             self.assertEqual(refusals.holder(self.value), f"process {process.pid} (/srv/serve/{189 * 'x'})")
             self.assertEqual(refusals.patience(self.value), turns.PATIENCE)  # that is no `serve`
             process.kill()
+        decides = [sys.executable, "-c", "import time; time.sleep(60)", "decide", "0001000", "D1", "refused", "an", "answer"]
+        with self.locked() as file, subprocess.Popen(decides, stdin=file) as process:
+            sample.until(lambda: "refused" in refusals.holder(self.value))
+            self.assertTrue(refusals.holder(self.value).endswith(" decide 0001000 D1 refused)"))
+            process.kill()
 
     def test_what_was_overwritten(self):
         self.write("office.db", b"x" * 4096)
