@@ -44,7 +44,7 @@ class TestForms(test_desk_files.Uploads):
         ((answer, text),) = self.while_read([(self.browser.ask, "GET", "/candidates/1051")])
         self.assertEqual(answer.status, 200)
         self.assertIn("CS-1", text)
-        self.assertIn("have its name now", text)
+        self.assertIn("stands on what is printed from now on", text)
 
     def test_as_many_as_the_desk_has_threads(self):
         text = self.browser.get("/candidates/1051")
