@@ -4,7 +4,7 @@ import sqlite3
 from collections.abc import Callable
 from functools import partial
 
-from flask import Blueprint, abort, redirect, render_template, request, url_for
+from flask import Blueprint, abort, render_template, request, url_for
 from markupsafe import Markup
 from werkzeug.datastructures import MultiDict
 from werkzeug.wrappers import Response
@@ -37,7 +37,7 @@ def find() -> str | Response:
         rows = view().rows(f"{texts.CANDIDATES} WHERE printf('%07d', number) LIKE ?", [f"%{asked}"])
         found = lists.by_name(Person(*row) for row in rows)
     if len(found) == 1:
-        return redirect(url_for("candidates.page", number=int(found[0].number)))
+        return lead("candidates.page", number=int(found[0].number))
     return render_template("candidates.html", asked=asked, found=found[:MOST_FOUND], total=len(found),
                            sessions=sums(view()), papers=papers_without(),
                            everybody=view().count("SELECT count(*) FROM candidate"))
@@ -164,7 +164,7 @@ def second(code: str, number: int) -> str | Response:
     shown, who = Session(code), candidate_row(number)["seven"]
     member, missed = view().reading.member(code, who), view().reading.clashes(code, [who]).get(who)
     if not member or not missed:
-        return redirect(url_for("clashes.page", session=code))
+        return lead("clashes.page", session=code)
     return render_template("second.html", s=shown.sums, member=member, missed=missed, choices=shown.choices(),
                            titles=facts.paper_titles(view().reading.rows))
 

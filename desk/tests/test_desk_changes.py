@@ -251,7 +251,7 @@ class TestSecondSitting(DeskSchool):
         self.assertIn("What changed", self.browser.words(page))
         self.assertIn("(ab, desk)\tsecond-sitting 0001051 LAT 11:00 R14\t0", self.log())
         self.assertNotIn("0001051", self.browser.words("/clashes?session=MON-AM"))
-        self.assertEqual(self.browser.ask("GET", self.PAGE)[0].status, 302)
+        self.assertEqual(self.browser.ask("GET", self.PAGE)[0].status, 303)
         self.assertIn("Take the second sitting back", self.browser.words("/candidates/1051"))
         (other,), *_ = self.rows("SELECT number FROM entry WHERE paper = 'LAT' AND number <> 1051")  # who has none
         self.assertNotIn("Take the second sitting back", self.browser.words(f"/candidates/{other}"))

@@ -119,7 +119,7 @@ class TestRefusals(DeskSchool):
         _, text = self.browser.post("/propose/second-back", PERSON, 422, **WHO, paper="PH-1")
         self.assertIn("no second sitting of PH-1", text)
         self.office("second-sitting", "0001051", "LAT", "11:00", "R14", "--yes")
-        where, _ = self.browser.post("/propose/second", "/candidates/1051", 302, **SECOND)  # the form is there no more
+        where, _ = self.browser.post("/propose/second", "/candidates/1051", **SECOND)  # the form is there no more
         self.assertIn("0001051 is not entered for LAT", self.browser.words(where))
         _, text = self.browser.post("/propose/withdraw", PERSON, 422, **WHO, paper="LAT", key="LAT")
         self.assertIn("the entry is withdrawn already", text)

@@ -233,7 +233,7 @@ class TestSearch(DeskSchool):
     def found(self, asked):
         """The numbers on the page of a search, in its order; of one candidate the page of that one."""
         answer, text = self.browser.ask("GET", f"/candidates?q={urllib.parse.quote(asked)}")
-        if answer.status == 302:
+        if answer.status == 303:
             return answer.headers["Location"].removeprefix(self.browser.prefix)
         return [int(number) for number in re.findall(r"<small>(\d{7})</small>", text.partition('"people"')[2])]
 
