@@ -202,7 +202,7 @@ def move_in(office: Office, path: str) -> None:
     if os.path.exists(place):
         with contextlib.suppress(sqlite3.Error):  # what is damaged, or has no room, is in a copy
             in_one_file(place)
-    for ending in ("-wal", "-shm"):  # whoever has the old file open shares none of them with the new one
+    for ending in ("-wal", "-shm", "-journal"):  # of the old file alone: the new one shares none of them
         pathlib.Path(place + ending).unlink(missing_ok=True)
     beside.sync(os.path.dirname(place))
     os.replace(path, place)

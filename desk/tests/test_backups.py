@@ -222,9 +222,10 @@ class TestPutBack(Backups):
         with open(self.path + "-wal", "wb") as old:  # of another office
             old.write(self.second or b"x" * 4000)
         self.write("office.db-shm", b"of whoever has it open")
+        self.write("office.db-journal", b"what would be written over the new one")
         with mock.patch("os.fsync", lambda file: synced.append(os.readlink(f"/proc/self/fd/{file}"))):
             self.assertEqual(self.put_back("", self.zip(**{"notebook/school.json": '"Hill"'})), (True, [], None))
-        self.assertFalse(os.path.exists(self.path + "-wal") or os.path.exists(self.path + "-shm"))
+        self.assertEqual([name for name in os.listdir(self.folder) if name.startswith("office.db-")], [])
         for place in "/notebook/school.json", "/notebook", self.desk:
             self.assertTrue(any(path.endswith(place) for path in synced), place)
         self.assertEqual((snapshot.name_now(self.value), self.office("check")), (before, "good\n"))

@@ -71,6 +71,12 @@ class Release(unittest.TestCase):
         self.assertIn("](desk.png)", found)
         self.assertNotIn("auditor", found)
 
+    def test_the_service_of_the_desk_may_write_titles_where_nginx_has_them(self):
+        nginx, unit = ((TOP / "web" / name).read_text("utf-8") for name in ("nginx.conf", "examoffice-desk.service"))
+        [place] = re.findall("location = /titles.json { root (.*?);", nginx)
+        [paths] = re.findall("^ReadWritePaths=(.*)$", unit, re.M)
+        self.assertIn(f"-{place}", paths.split())  # it need not be there
+
     def test_changelog_of_debian(self):
         found = self.release.debian_changelog(CHANGES)
         self.assertEqual(found, MEANT.replace("NAME", self.release.MAINTAINER))
