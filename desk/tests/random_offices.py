@@ -237,6 +237,7 @@ class RandomOffice:
                 seat, start = self.now[other][number], begins[other][1]
                 when = f"until {seat.finish}" if begins[other] < begins[session] else f"from {start // 60:02}:{start % 60:02}"
                 then[number].append(f"sits {other} {when}, in {seat.hall.replace('-', 'no hall yet')}")
+        signed = []
         for hall, parts in tables.items():
             lines = self.sheet(self.path, "door-list", session, hall)
             rows = [[*line[:25].split(), line[26:]] for line in lines[2:]]
@@ -247,6 +248,7 @@ class RandomOffice:
                        "|".join(filter(None, [self.arrangements[number, session], *missed[number], *then[number]])), ""]
                       for desk, number, paper, name in rows]
             equal([row for table in parts for row in table[2:]][:-1], wanted, "doors", page)
+            signed.append([[*row[:4], ""] for row in wanted])
             last = max(self.now[session][number].finish for _, number, *_ in rows)
             copies = collections.Counter(row[2] for row in rows)
             room = LEFT if len(copies) > 1 else ""  # where each paper's scripts are counted
@@ -258,6 +260,8 @@ class RandomOffice:
                 for words in (f"last finish {last}|", f", {len(rows):,} candidate",
                               f"|{hall}, page {place} of {len(parts)}|{counted}"):
                     assert words in table[0][0], (words, table[0])
+        lists_to_sign = Cells(page := papers.page(reading, "signatures", session)).tables
+        equal([table[2:] for table in lists_to_sign], signed, "signatures", page)
 
     def by_name(self, reading, session):
         """The notice board, and the posters of the halls: namesakes of the session have their numbers on both."""

@@ -420,8 +420,10 @@ class TestSchool(DeskSchool):
         self.assertEqual(self.office("school"), "Hill\nhttps://hill.example\n")
         self.assertIn("School: Address of the candidates' page: – → https://hill.example",
                       self.browser.words("/sessions/MON-AM/printed"))
-        for wrong in {**form, "address": "a\nb"}, {"name": "x" * 81, "address": ""}:
-            self.browser.post("/office/school", "/office", 422, **wrong)
+        for wrong, field in ({**form, "address": "a\nb"}, "address"), ({"name": "x" * 81, "address": ""}, "name"):
+            _, text = self.browser.post("/office/school", "/office", 422, **wrong)
+            self.assertEqual(re.findall('name="([a-z]+)"[^>]* aria-invalid="true"', text), [field])
+            self.assertIn("a name or an address has 1 to 80 letters", text)
         self.browser.post("/office/school", "/office", **form)
         self.assertEqual(self.office("school"), "Hill\nhttps://hill.example\n")
         self.assertEqual(self.log().count("school"), 2)  # nothing that is as it was

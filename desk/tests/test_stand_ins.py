@@ -5,6 +5,7 @@ import dataclasses
 import io
 import json
 import os
+import re
 import subprocess
 import unittest
 from unittest import mock
@@ -28,7 +29,8 @@ class Pages:
     """All pages and lists of one reading."""
 
     def __init__(self, reading, before):
-        self.doors, self.board, self.counts = (papers.page(reading, name, SESSION) for name in ("doors", "board", "counts"))
+        for name in papers.MAKERS:
+            setattr(self, name, papers.page(reading, name, SESSION))
         self.slips = slips.page(reading, slips.Choice([SESSION], desks=True))
         page = Page(reading, SESSION)
         self.page, self.faults = page.document(), page.faults
@@ -47,6 +49,21 @@ class Pages:
         [row] = [row for row in Cells(getattr(self, page)).rows if NAME in row]
         return row
 
+    def card(self):
+        """What the desk card that has the name says."""
+        [card] = [card for card in re.findall("<div class=card>(.*?)</div>", self.cards, re.S) if NAME in card]
+        return [re.sub("<.*?>", "", part) for _, part in re.findall(r"<(b|h2|p)>(.*?)</\1>", card, re.S)]
+
+    def drawn(self):
+        """The halls and desks at which the seating charts have the name, with what stands there."""
+        return [(table[0][0].partition(")")[0].partition("(")[2], cell)
+                for table in Cells(self.chart).tables for row in table[1:] for cell in row if NAME in cell]
+
+    def posted(self):
+        """The desks that the posters give the name, by hall."""
+        return [(re.search(r"aria-label='(\w+)'", sheet)[1], row[1]) for sheet in self.poster.split("<div class=sheet>")[1:]
+                for row in Cells(sheet).rows if row[0] == NAME]
+
     def slip(self):
         return next(table for table in Cells(self.slips).tables if NUMBER in table[0][0])[2]
 
@@ -62,6 +79,11 @@ class Pages:
         return line
 
 
+def papers_of(page, hall):
+    """The numbers on the sheet of a hall."""
+    return [row[1] for table in Cells(page).tables if f"({hall})" in table[0][0] for row in table[2:]]
+
+
 class StandIns(sample.SampleSchool):
     """The real program says of Jana Roe on Monday: LAT until 10:53, 25 % extra time and a screen, LIB desk 1."""
     maxDiff = None
@@ -71,6 +93,8 @@ class StandIns(sample.SampleSchool):
         super().setUp()
         subprocess.run(self.value.line("withdraw", "0001306", "LAT"), check=True, stdout=subprocess.DEVNULL)
         self.office("name", "0001221", "Nora Hadad")
+        for hall in ("AULA", "GYM", "LIB", "PC1", "R12", "R14"):
+            self.office("rows", hall, "8")
 
     def pages(self, number=NUMBER, **members):
         """The pages, where a program answers so of a candidate's sitting on Monday."""
@@ -86,6 +110,10 @@ class StandIns(sample.SampleSchool):
         self.assertEqual(pages.slip(), ["Mon 7 June 2027", "09:00–10:53", "Latin (LAT)|with 25 % extra time, screen",
                                         "Library (LIB), desk\u00a01"])
         self.assertEqual(pages.row("board"), [NAME, "LIB", "1"])
+        self.assertEqual(pages.row("signatures"), ["1", NUMBER, NAME, "LAT", ""])
+        self.assertEqual(pages.posted(), [("LIB", "1")])
+        self.assertEqual(pages.card(), ["1", NAME, NUMBER, "Latin (LAT)", "Mon 7 June 2027, 09:00, Library"])
+        self.assertEqual(pages.drawn(), [("LIB", f"1{NAME} {NUMBER} LAT")])
         self.assertEqual(pages.row("page"), ["1", NUMBER, NAME, "LAT", "10:53"])
         self.assertEqual(pages.line("door-list", "LIB"), f"   1 {NUMBER} LAT          {NAME}")
         self.assertEqual(pages.line("attendance", "LAT"), f"{NUMBER} LIB         1 10:53 {NAME}")
@@ -94,7 +122,8 @@ class StandIns(sample.SampleSchool):
 
     def test_paper(self):
         pages = self.pages(paper="CS-1")
-        self.assertEqual((pages.row("doors")[3], pages.row("page")[3]), ("CS-1", "CS-1"))
+        self.assertEqual([pages.row(name)[3] for name in ("doors", "signatures", "page")], ["CS-1"] * 3)
+        self.assertEqual((pages.card()[3], pages.drawn()), ("Computer science (CS-1)", [("LIB", f"1{NAME} {NUMBER} CS-1")]))
         self.assertIn("Computer science (CS-1)", pages.slip()[2])
         self.assertEqual(pages.line("door-list", "LIB"), f"   1 {NUMBER} CS-1         {NAME}")
         self.assertEqual(pages.line("attendance", "CS-1"), f"{NUMBER} LIB         1 10:53 {NAME}")
@@ -125,6 +154,7 @@ class StandIns(sample.SampleSchool):
         self.assertIn("extra 77, needs screen+quiet", pages.why())
         self.assertIn("GYM      no screen, no quiet", pages.why())
         self.assertIn(f"with {said}", pages.look)
+        self.assertIn("Jana Roe: loses screen\n", self.pages(needs="quiet").changes)
 
     def test_needs_of_who_has_no_desk(self):
         pages = self.pages(UNSEATED, needs="quiet", extra=77)
@@ -142,6 +172,10 @@ class StandIns(sample.SampleSchool):
         self.assertIn(NUMBER, [row[1] for row in sheet if len(row) > 1])
         self.assertIn("Room 12 (R12)", pages.slip()[3])
         self.assertEqual(pages.row("board")[1], "R12")
+        self.assertEqual(pages.posted(), [("R12", "1")])
+        self.assertIn(NUMBER, papers_of(pages.signatures, "R12"))
+        self.assertEqual(pages.card()[4], "Mon 7 June 2027, 09:00, Room 12")
+        self.assertNotIn("LIB", dict(pages.drawn()))  # in R12 somebody else has this desk, too
         self.assertIn(["Room 12 (R12)", "Latin (LAT)", "1", "10:53", "", ""], pages.count("Room 12 (R12)"))
         self.assertIn(NAME, pages.page[pages.page.index("id=hall-R12"):pages.page.index("id=clashes")])
         self.assertIn("R12      sits here, at desk 1", pages.why())
@@ -153,7 +187,8 @@ class StandIns(sample.SampleSchool):
 
     def test_no_hall(self):
         pages = self.pages(hall=None, desk=None)
-        self.assertNotIn(NAME, pages.doors)
+        for name in ("doors", "signatures", "poster", "cards", "chart"):
+            self.assertNotIn(NAME, getattr(pages, name))
         self.assertIn("no desk yet: ask the office", pages.slip()[3])
         self.assertEqual(pages.row("board")[1], "ask the office")
         self.assertIn(["no desk", "Latin (LAT)", "1", "10:53", "", ""], pages.count("no desk"))
@@ -166,7 +201,9 @@ class StandIns(sample.SampleSchool):
 
     def test_desk(self):
         pages = self.pages(desk=77)
-        self.assertEqual((pages.row("doors")[0], pages.row("board")[2], pages.row("page")[0]), ("77", "77", "77"))
+        self.assertEqual([pages.row(name)[0] for name in ("doors", "signatures", "page")], ["77"] * 3)
+        self.assertEqual((pages.row("board")[2], pages.posted(), pages.card()[0]), ("77", [("LIB", "77")], "77"))
+        self.assertEqual(pages.drawn(), [])  # the hall has no such desk
         self.assertIn("desk\u00a077", pages.slip()[3])
         self.assertIn("sits here, at desk 77", pages.why())
         self.assertEqual(pages.line("door-list", "LIB"), f"  77 {NUMBER} LAT          {NAME}")
