@@ -136,6 +136,7 @@ class Posters(sample.SampleSchool):
                          (len(seats), sum(-(-halls.count(hall) // 10) for hall in {*halls})))
         self.assertNotRegex(text, r"\d\d:\d\d[^,]{0,3}\d\d:\d\d")  # a finish would show who has extra time
         one = self.page("cards", "MON-AM", "PC1")[0]
+        self.assertIn("<p>Mon 7 June 2027, 09:00, <bdi>Computer room</bdi> (PC1)</p>", one)  # halls can have one title
         self.assertEqual(one.count("<div class=card>"), sum(hall == "PC1" for hall, _ in seats.values()))
         self.assertIn("nobody sits in X", self.refused("cards", "MON-AM", "X"))
 
