@@ -124,6 +124,7 @@ class Posters(sample.SampleSchool):
                 self.assertEqual(re.sub("<br>|<[^>]*>", "", body.replace("<br>", ", ")).split("\n")[1:3], [
                     f"Hill &lt;School&gt;, {day} 2027, 09:00 ({session})", said])
         self.assertIn("nobody has a desk in TUE-AM\n", self.refused("doors", "TUE-AM", "AULA"))
+        self.assertIn("</header>\n<p>nobody is entered</p>", self.office("slips", "WED"))
 
     def test_cards(self):
         text, _ = self.page("cards", "MON-AM")
