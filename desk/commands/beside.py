@@ -54,7 +54,7 @@ def lacking(reading: Reading, sessions: list[str], is_list: bool) -> Iterator[st
     from exam_desk import notebook, second_sitting
     for session in sessions:
         noted = notebook.absences(reading, session)
-        if noted is None and is_list:
+        if noted is None and is_list and reading.members(session):
             yield (f"nobody has noted who was absent in {session}: all who have a desk are listed as present; "
                    f"`office absent {session} --nobody` notes that nobody was")
         if noted and noted.gone:

@@ -128,8 +128,8 @@ def second_sitting(parser: command.Parser) -> command.Plan:
     office what-if take school.xlsx
     office what-if back 1         also which appeals and decisions it would take away
 
-It takes each command that changes seats, carries it out on a private copy, asks nothing, and prints what came of
-it; then who would lose a desk, move, get one, join or leave, at most 20 of each. The status is that of the command.
+It carries out each command that changes seats on a private copy, asks nothing, and prints what came of it; then who
+would lose a desk or move, at most 20 of each, and how many get one, join or leave. The status is that of the command.
 """)
 def what_if(parser: command.Parser) -> int:
     from commands import programs

@@ -188,8 +188,8 @@ def dump(parser: command.Parser) -> None:
     office take facts --yes         without a question, for scripts
 
 It reads as `office read` does; where there is a mistake nothing is changed, and the status is 1. It tries all imports
-on a private copy of the office, and says what each would do and who would lose a desk, move, get one, join or leave.
-Then it imports in order, whole or not at all.
+on a private copy of the office, and says what each would do, who would lose a desk or move, and how many would get one,
+join or leave. Then it imports in order, whole or not at all.
 """, changes=True)
 def take(parser: command.Parser) -> command.Plan:
     from commands import programs

@@ -1,9 +1,8 @@
 """Access codes at random for candidates who have none, or whose code is lost; and other names for candidates."""
-import os
 import secrets
 from collections.abc import Mapping
 
-from exam_desk import facts, files, snapshot
+from exam_desk import files, mistakes, snapshot
 from exam_desk.changing import Step
 from exam_desk.office import Office, NoCandidate, Trouble
 
@@ -16,7 +15,9 @@ def read(text: bytes, path: str) -> list[list[str]]:
     for row in files.below_header(text, path, files.HEADERS["candidates"]):
         coded = [*row.fields[:2], *(code or b"AAAAAAAA" for code in row.fields[2:])]
         if len(coded) != len(forms) or not all(right(value) for right, value in zip(forms, coded)):
-            raise Trouble(f"line {row.line} is wrong; `office check-files` says how", path)
+            wrong, _ = mistakes.looked_through("candidates", text, mistakes.Known())
+            why = "; ".join(f"{each.what}: {each.text}" for each in wrong if each.line == row.line)
+            raise Trouble(f"line {row.line}: {why}", path)
         found.append([value.decode() for value in row.fields])
     return found
 
@@ -43,14 +44,12 @@ def filled(rows: list[list[str]], known: Mapping[str, str]) -> tuple[list[list[s
 def coded(office: Office, path: str, new: list[str]) -> tuple[list[list[str]], int, int]:
     """The rows of a file, each with a code: its own, else that of the office, else a new one, as those get who are to
     have a new one; how many are new, and how many are the office's. Raises `Trouble` as `read`."""
-    rows, known = read(files.read(path, office.warn), path), dict[str, str]()
-    if os.path.exists(office.path):
-        with snapshot.rows(office) as connection:
-            known = facts.access_codes(connection)
+    rows = read(files.read(path, office.warn), path)
     if missing := [number for number in new if number not in {row[0] for row in rows}]:
         raise Trouble(f"{missing[0]} is not in {path}")
     empty = [[number, name, "" if number in new else code] for number, name, code in rows]
-    known = {number: code for number, code in known.items() if number not in new}
+    known = {number.decode(): code.decode() for number, code in mistakes.office_knows(office).codes.items()
+             if number.decode() not in new}
     found, made = filled(empty, known)
     return found, made, sum(not code and number in known for number, _, code in empty)
 

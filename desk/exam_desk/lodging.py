@@ -4,14 +4,13 @@ import itertools
 import json
 from collections.abc import Iterator, Sequence
 
-from exam_desk import asking, beside, logbook, refusals, snapshot, turns, typed
+from exam_desk import asking, beside, facts, logbook, refusals, snapshot, turns, typed
 from exam_desk.asking import Serve
 from exam_desk.changing import Answered, Step
 from exam_desk.office import NoCandidate, Office, Trouble
 from exam_desk.running import Ran
 
 TRIES, SECONDS = 3, 60
-CODE = "SELECT code FROM candidate WHERE number = ?"
 REFS = "SELECT ref FROM appeal WHERE number = ?"
 
 
@@ -52,7 +51,7 @@ def lodge(office: Office, words: Sequence[str]) -> Answered:
     values = {name: int(word) if name == "extra" else word for name, word in named.items()}
     beside.refuse_stranger(office.path)
     with snapshot.rows(office) as rows:
-        [code] = rows.execute(CODE, [int(words[0])]).fetchone() or [None]
+        code = facts.access_codes(rows).get(words[0])
         refs = {ref for ref, in rows.execute(REFS, [int(words[0])])}
     if code is None:
         raise NoCandidate(words[0])

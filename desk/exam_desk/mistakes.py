@@ -271,8 +271,9 @@ def fault_of(record: files.Record, wanted: int) -> str:
         return EMPTY_ROW
     if (count := len(record.fields)) == wanted:
         return ""
-    why = "a quote is not closed" if not record.closed else \
-        "values are missing" if count < wanted else "put a value with a comma in double quotes"
+    why = "a quote is not closed" if not record.closed else "values are missing" if count < wanted else \
+        "put a value with a comma in double quotes" if any(record.fields[wanted:]) else \
+        "the last ones are empty: delete them"
     return f"{count} in place of {wanted} fields; {why}"
 
 

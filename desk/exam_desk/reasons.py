@@ -117,7 +117,7 @@ class Reasons:
             raise Trouble(f"{number} sits nothing in {self.session}; `office look {number}` says what they sit")
         if number is None and len(asked) * (1 + len(self.openings)) > MOST_LINES:
             return "".join(f"{line}\n" for line in self.in_short(asked))
-        return "".join(map(self.lines, asked)) or "everybody has a desk\n"
+        return "".join(map(self.lines, asked)) or ("everybody has a desk\n" if self.members else "nobody is entered\n")
 
     def in_short(self, asked: list[Member]) -> Iterator[str]:
         """All numbers, by needs, and each reason with its candidates and halls."""

@@ -23,7 +23,7 @@ SENTENCES = {
     9: "the entry is withdrawn already",
     10: "the entry is not withdrawn",
     11: "the candidate does not sit in this hall",
-    12: "the candidate sits nothing in this session; an appeal for it can only be decided `refused`",
+    12: "the candidate sits nothing in this session: check its code; an appeal for it can only be decided `refused`",
     13: "the last day to lodge this has passed; the handbook has the ways round (A candidate asks)",
     14: "the candidate has another appeal with this reference; take a new one",
     15: "the candidate has no such appeal; `office appeals SESSION` lists numbers and references",

@@ -264,6 +264,7 @@ class Words(unittest.TestCase):
     def test_rows_that_are_wrong_as_a_whole(self):
         for row, said in (
                 (b"0001000,Lin, Ada,WK3DEGZDPC", "4 in place of 3 fields; put a value with a comma in double quotes"),
+                (b"0001000,Lin Ada,WK3DEGZDPC,,", "5 in place of 3 fields; the last ones are empty: delete them"),
                 (b"0001000,Ada", "2 in place of 3 fields; values are missing"),
                 (b",,", "an empty row of the spreadsheet: delete it"),
                 (b",,,", "an empty row of the spreadsheet: delete it"),

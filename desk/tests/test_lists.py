@@ -253,11 +253,16 @@ class Lists(sample.SampleSchool):
         self.assertEqual([row[2] for row in found], ["B" * 10, "C" * 10])
 
     def test_rows_without_codes_are_those_that_an_import_takes(self):
-        header, check = "line 1 must be: number,name,code", "line 2 is wrong; `office check-files` says how"
-        for text, said in [("number,name\n", header), ("number,name,code\n1,Bo,\n", check),
-                           ("number,name,code\n0000001,Bo,abc\n", check), ("", header)]:
-            with self.assertRaisesRegex(Trouble, f"c.csv: {re.escape(said)}"):
+        header, twice = "line 1 must be: number,name,code", "number,name,code\n0000001,Bo,\n0000001,Bo,ABCDEFGH\n"
+        for text, said in [("number,name\n", header), ("", header),
+                           (f"{twice}1,Bo,\n", "line 4: number '1': write 0000001 (seven digits; format the column as text)"),
+                           (f"{twice}0000002,Bo,abc\n", "line 4: code 'abc': 8 to 16 of A-Z and 0-9"),
+                           (f"{twice}0000001,Bo,abc\n", "line 4: code 'abc': 8 to 16 of A-Z and 0-9; row: line "
+                            "2 has the same key and other contents: keep one"),
+                           (f"{twice}0000002,Bo\n", "line 4: row: 2 in place of 3 fields; values are missing")]:
+            with self.assertRaisesRegex(Trouble, f"^c.csv: {re.escape(said)}$"):
                 coding.read(text.encode(), "c.csv")
+        self.assertEqual(len(coding.read(twice.encode(), "c.csv")), 2)
         for code, text in ("", b"\n"), ("ABCDEFGH", b'"ABCDEFGH'):  # a quote may stay open at the end
             self.assertEqual(coding.read(b"number,name,code\n0000001,Bo," + text, "c.csv"), [["0000001", "Bo", code]])
 

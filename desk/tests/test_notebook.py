@@ -301,6 +301,14 @@ class Commands(sample.SampleSchool):
         self.assertIn("these are absent: 0001051\n", self.refused("absent", "MON-AM", "--nobody"))
         self.assertEqual([line[2] for line in self.board() if line[4] == "absent"], ["0001051"])
 
+    def test_a_session_with_nobody_wants_no_note(self):
+        """Such as that of a second sitting which was taken back."""
+        self.environment["TODAY"] = "2027-06-07"
+        for words in (["11:15", "PC1"], ["--undo"]):
+            self.office("second-sitting", "1051", "LAT", *words, "--yes")
+        self.assertEqual(self.run_office("absent", "MON-AM-2").stderr, "")
+        self.assertEqual(self.run_office("absent").stderr.count("NOTE nobody has noted"), 2)
+
     def test_absent(self):
         self.environment["TODAY"] = "2027-06-07"
         lines = self.board("office: NOTE")

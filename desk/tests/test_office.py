@@ -113,6 +113,9 @@ class Words(sample.SampleSchool):
                              "office: a reason or an answer is one line; none came in, or several: nothing is done\n")
         said = self.office("lodge", "1051", "MON-AM", "hall", "PC1", "-", stdin=f"{reason}\r\n")
         self.assertEqual(said, "0001051 D1 open\n")
+        self.assertEqual(self.refused("lodge", "1051", "MON", "hall", "PC1", "x"),
+                         "refused 12\n  the candidate sits nothing in this session: check its code; an appeal for it can "
+                         "only be decided `refused`\n")
         self.assertIn("at most 200 bytes", self.run_office(
             "lodge", "1051", "TUE-AM", "arrangement", "-", "25", "-", stdin="a" * 201).stderr)
         self.assertIn("decided refused", self.office("what-if", "decide", "1051", "D1", "refused", "-", stdin="no\n"))

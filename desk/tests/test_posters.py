@@ -124,6 +124,7 @@ class Posters(sample.SampleSchool):
                 self.assertEqual(re.sub("<br>|<[^>]*>", "", body.replace("<br>", ", ")).split("\n")[1:3], [
                     f"Hill &lt;School&gt;, {day} 2027, 09:00 ({session})", said])
         self.assertIn("nobody has a desk in TUE-AM\n", self.refused("doors", "TUE-AM", "AULA"))
+        self.assertIn("</header>\n<p>nobody is entered</p>", self.office("slips", "WED"))
 
     def test_cards(self):
         text, _ = self.page("cards", "MON-AM")
@@ -136,6 +137,7 @@ class Posters(sample.SampleSchool):
                          (len(seats), sum(-(-halls.count(hall) // 10) for hall in {*halls})))
         self.assertNotRegex(text, r"\d\d:\d\d[^,]{0,3}\d\d:\d\d")  # a finish would show who has extra time
         one = self.page("cards", "MON-AM", "PC1")[0]
+        self.assertIn("<p>Mon 7 June 2027, 09:00, <bdi>Computer room</bdi> (PC1)</p>", one)  # halls can have one title
         self.assertEqual(one.count("<div class=card>"), sum(hall == "PC1" for hall, _ in seats.values()))
         self.assertIn("nobody sits in X", self.refused("cards", "MON-AM", "X"))
 

@@ -84,6 +84,12 @@ class InShort(unittest.TestCase):
         more = found([*members, member(6, (), "09:30")], openings).text()
         self.assertIn("  suits, but all desks are taken: 7 candidates, 6 halls: H001, H002, H003, H005, H006", more)
 
+    def test_nobody_lacks_a_desk(self):
+        seated = member(1, (), "09:30")
+        seated = seated._replace(sitting=seated.sitting._replace(hall="H001", desk=1))
+        self.assertEqual(found([seated], [opening(1)]).text(), "everybody has a desk\n")
+        self.assertEqual(found([], [opening(1)]).text(), "nobody is entered\n")
+
     def test_no_hall_is_open(self):
         self.assertIn("\nno hall is open\n", found([member(place, (), "09:30") for place in range(70)], []).text())
 

@@ -118,10 +118,10 @@ def poster(of: Session) -> Iterator[Markup]:
 
 def cards(of: Session) -> Iterator[Markup]:
     """By hall and desk, ten on a page; each hall begins one. Without what others need not know."""
-    papers = paper_names(of.rows)
+    papers, halls = paper_names(of.rows), hall_names(of.rows)
     for opening, there in of.halls:
         found = [html(CARD, sits.desk, fitted(text(name), ON_CARD), number, fitted(papers[sits.paper], LINES_OF_CARD),
-                      fitted(html("{}, {}, {}", short_day(sits.date), sits.start, text(opening.title)), LINES_OF_CARD))
+                      fitted(html("{}, {}, {}", short_day(sits.date), sits.start, halls[opening.hall]), LINES_OF_CARD))
                  for number, name, sits in there]
         yield from (joined(found[at:at + CARDS], "\n") for at in range(0, len(found), CARDS))
 

@@ -47,7 +47,8 @@ def page(reading: Reading, choice: Choice) -> str:
             html("<div class=slip>{}</div>\n", pages.table(each.person.number, HEADS, rows, above)))
     form = "<div class=sheet><h2>{}</h2>\n{}</div>\n" if choice.groups else "{1}"
     slips = joined(html(form, text(group or "in no group"), joined(each)) for group, each in by_group.items())
-    return pages.document(reading, f"Slips {few([*choice.sessions, *choice.only])}".strip(), slips, "slips")
+    return pages.document(reading, f"Slips {few([*choice.sessions, *choice.only])}".strip(),
+                          slips or html("<p>nobody is entered</p>"), "slips")
 
 
 def heading(choice: Choice, each: Slip, address: str) -> Markup:
