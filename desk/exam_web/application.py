@@ -90,7 +90,9 @@ def problem(fault: Exception) -> ResponseReturnValue:
         said, status = wording.refused(fault), 409
     elif isinstance(fault, HTTPException):
         if fault.code == 401:
-            return (guard.page("visit"), 401) if request.method == "POST" else redirect(url_for("entering.page"))
+            if request.method == "POST":
+                return guard.page("left" if request.endpoint == "entering.leave" else "visit"), 401
+            return redirect(url_for("entering.page", ended=1 if guard.COOKIE in request.cookies else None))
         status = fault.code or 500
         said = wording.said(proposals.WRONG_DESK) if status == 500 else escape(fault.description)
     elif isinstance(fault, OSError) and fault.errno in beside.FULL:

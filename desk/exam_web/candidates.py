@@ -15,8 +15,8 @@ from exam_desk.reading import Person
 from exam_desk.sheets import slips as slip_pages
 from exam_desk.sheets import texts
 from exam_web import proposals
-from exam_web.desk import (Form, Page, Wrong, as_known, at_field, at_one_time, checked, desk, lead, office, styled,
-                           sums, tell_papers, view)
+from exam_web.desk import (Form, Page, Wrong, as_known, at_field, at_one_time, checked, desk, kept, lead, office,
+                           styled, sums, tell_papers, view)
 from exam_web.proposals import APPEALS, BY_DAY, PLANS, TROUBLE, Plan, command, import_step
 from exam_web.session import Session
 from exam_web.wording import shown, text
@@ -81,10 +81,8 @@ def code(number: int) -> str:
 @pages.post("/candidates/<int:number>/note")
 def note(number: int) -> Response:
     seven, page_of = candidate_row(number)["seven"], ("candidates.page", {"number": number})
-    known = notebook.notes(desk().office).get(seven, "")
-    given = as_known(checked(page_of, request.form, note=typed.REASON)["note"], known)
-    if as_known(request.form.get("was", known), known) != known:
-        raise Wrong(page_of, note=text("somebody has changed it meanwhile; it says: {note}", note=known or "–"))
+    checked(page_of, request.form, note=typed.REASON)
+    given = kept(page_of, request.form, "note", notebook.notes(desk().office).get(seven, ""))
     notebook.take_notes(office(), {seven: given})
     told = text("The note is kept.") if given else text("There is no note on this candidate.")
     tell_papers()

@@ -243,6 +243,15 @@ def as_known(given: str, known: str) -> str:
     return known if given == words.plain(known) else given
 
 
+def kept(page: Page, form: Form, field: str, known: str) -> str:
+    """A field of what is kept beside the office: what is known, where the field is as the page showed it. Raises `Wrong`
+    where that is another by now."""
+    given, was = (as_known(form.get(name, known).strip(), known) for name in (field, f"was-{field}"))
+    if given not in (was, known) and was != known:
+        raise Wrong(page, **{field: text("somebody has changed it meanwhile; it says: {note}", note=known or "–")})
+    return known if given == was else given
+
+
 def cure(column: str) -> Markup:
     if column in typed.CHOICES:
         return text("choose one")

@@ -166,7 +166,8 @@ def enter() -> Response | tuple[str, int]:
     if not INITIALS.fullmatch(initials):
         return page("initials", initials[:40]), 422
     if not use_link(desk().office.path, token):
-        return page("link", initials), 422
+        is_in = token and g.visit and g.visit.initials == initials  # a button that was pressed twice
+        return redirect(url_for("season.page"), 303) if is_in else (page("link", initials), 422)
     answer = redirect(url_for("season.page"), 303)
     current_app.extensions["guard"].begin(answer, initials)
     return answer

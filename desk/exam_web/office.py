@@ -13,7 +13,8 @@ from werkzeug.wrappers import Response
 
 from exam_desk import backups, changing, copies, facts, keeping, notebook, turns
 from exam_desk.office import Stale, Trouble
-from exam_web.desk import View, Wrong, archive, as_known, at_field, desk, lead, office, once, sums, tell_papers, view
+from exam_web.desk import (Page, View, Wrong, archive, at_field, desk, kept, lead, office, once, sums, tell_papers,
+                           view)
 from exam_web.proposals import MOST_ROWS, Effects, copy_key, done_since
 from exam_web.wording import said, text
 
@@ -128,9 +129,10 @@ def about_school() -> list[str]:
 @pages.post("/office/school")
 def school() -> Response:
     """Keeps the name of the school and the address of the candidates' page, which papers show, or takes them away."""
-    with at_field(("office.page", {}), "name"):
+    page: Page = ("office.page", {})
+    with at_field(page, "name"):
         known = about_school()
-        given = [as_known(request.form.get(field, was).strip(), was) for field, was in zip(("name", "address"), known)]
+        given = [kept(page, request.form, field, was) for field, was in zip(("name", "address"), known)]
         notebook.set_school_name(office(), *(None if new == was else new for new, was in zip(given, known)))
     tell_papers()
     return lead("office.page", text("It is kept, and stands on what is printed from now on."))

@@ -261,10 +261,10 @@ def page(key: str) -> str:
 
 @pages.post("/proposals/<key>/do")
 def do(key: str) -> Response:
-    """Does what was rehearsed, once, if each tick that it wants is there."""
+    """Does what was rehearsed, once, if the page showed the last rehearsal, and each tick that it wants is there."""
     plan: Plan = g.visit.proposals.get(key) or abort(404)
     with plan.lock:  # a second click does nothing
-        if plan.can_be_done:
+        if plan.can_be_done and request.form.get("seen") == plan.made_from:
             if plan.ticked() and not request.form.get("tick"):
                 raise Wrong(("proposals.page", {"key": key}), tick=text("tick this, or leave the office as it is"))
             work(plan, carry_out)

@@ -13,6 +13,7 @@ from exam_desk import files
 from sample import DESK, KINDS, SampleSchool
 
 MARK, STATE = 'name="mark" value="([^"]+)"', 'name="state" value="([^"]*)"'
+SEEN = 'name="seen" value="([^"]+)"'  # of the form that does what was rehearsed: the state that was
 TICK = 'name="tick" value="1" required'
 EFFECT = r'effect (\w+)"><b>([\d,]+)</b>[^<]*(?:<small>\((?:<bdi>)?([\d,]+))?'
 LINK = r"http://127\.0\.0\.1:(\d+)(/[^/\s]+)/enter#(\S+)"
@@ -83,11 +84,11 @@ class Browser:
         return (answer.headers["Location"] or "").removeprefix(self.prefix), text
 
     def post(self, path, page, status=303, **values):
-        """Posts as the form of a page does, with its mark, its state and the tick that it wants; gives where it leads,
+        """Posts as the form of a page does, with its mark, its states and the tick that it wants; gives where it leads,
         and the text."""
         text = self.get(page)
-        state = re.search(STATE, text)
-        values = {"mark": re.search(MARK, text)[1], "state": state[1] if state else "",
+        state, seen = re.search(STATE, text), re.search(SEEN, text)
+        values = {"mark": re.search(MARK, text)[1], "state": state[1] if state else "", "seen": seen[1] if seen else "",
                   "tick": "1" if TICK in text else "", **values}
         answer, text = self.ask("POST", path, urllib.parse.urlencode(values, doseq=True))
         assert answer.status in (status if isinstance(status, tuple) else (status,)), (path, answer.status, text[-800:])

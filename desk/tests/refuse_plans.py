@@ -111,10 +111,15 @@ def refused_late(browser, what):
     lodged = changing.Answered(changing.Step(("lodge",)), ran, browser.app.extensions["desk"].office)
     with (mock.patch.object(changing, "run_patiently", return_value=ran),
           mock.patch.object(lodging, "lodge", return_value=lodged)):
-        browser.post(f"{page}/do", {"tick": "1"})
+        browser.post(f"{page}/do", confirmed(browser, page))
     text = shown(browser.client.get(page))
     holds("It was refused, and the office is as it was" in text and sentence(22) in text and "/do" not in text,
           f"{what} refused late: {text[-300:]}")
+
+
+def confirmed(browser, page):
+    """What the form of a rehearsal sends."""
+    return {"tick": "1", "seen": re.search('name="seen" value="([^"]+)"', shown(browser.client.get(page)))[1]}
 
 
 def leads_back(browser, what, page):
@@ -130,7 +135,7 @@ def leads_back(browser, what, page):
 def done_once(browser):
     """Of two clicks at one moment the second waits, and does nothing then."""
     page = browser.post("/propose/enter", FORMS["enter"][1]).headers["Location"]
-    began, work = [], proposals.work
+    began, work, form = [], proposals.work, confirmed(browser, page)
 
     def slow(*words):
         began.append(words)
@@ -138,7 +143,7 @@ def done_once(browser):
         work(*words)
     with mock.patch.object(proposals, "work", slow), ThreadPoolExecutor(2) as threads:
         for _ in range(2):
-            threads.submit(browser.post, f"{page}/do", {"tick": "1"})
+            threads.submit(browser.post, f"{page}/do", form)
     holds(len(began) == 1, f"a plan is done {len(began)} times")
 
 

@@ -11,7 +11,7 @@ import unittest
 import urllib.parse
 
 import sample
-from desk_client import MARK, Browser, DeskSchool, effects
+from desk_client import MARK, SEEN, Browser, DeskSchool, effects
 
 REASON = "asthma, since 2019"
 
@@ -130,10 +130,10 @@ class TestRehearsal(DeskSchool):
 
     def test_done_once(self):
         page, _ = self.browser.post("/propose/withdraw", "/candidates/1051", number="0001051", paper="PH-1")
-        mark = re.search(MARK, self.browser.get(page))[1]
+        text = self.browser.get(page)
+        form = urllib.parse.urlencode({"mark": re.search(MARK, text)[1], "seen": re.search(SEEN, text)[1]})
         with concurrent.futures.ThreadPoolExecutor(6) as threads:
-            list(threads.map(lambda _: self.browser.ask("POST", page + "/do", urllib.parse.urlencode({"mark": mark})),
-                             range(6)))
+            list(threads.map(lambda _: self.browser.ask("POST", page + "/do", form), range(6)))
         self.assertIn("Take it back", self.browser.words(page))
         self.assertNotIn("nothing was done", self.browser.words(page))
         self.assertEqual(self.log().count("withdraw 0001051 PH-1\t0"), 1)
@@ -215,6 +215,22 @@ class TestRehearsal(DeskSchool):
         self.browser.post(pages[1] + "/do", pages[1])
         self.assertIn("nothing was done", self.browser.words(pages[1]))
         self.assertEqual(self.rows("SELECT paper FROM entry WHERE live = 0"), [("PH-1",)])
+
+    def test_two_tabs_with_one_rehearsal(self):
+        """What one tab has rehearsed anew, the other has not shown: so its button does nothing."""
+        page, _ = self.browser.post("/propose/withdraw", "/candidates/1051", number="0001051", paper="PH-1")
+        seen = re.search(SEEN, self.browser.get(page))[1]
+        other = self.rows("SELECT number FROM entry WHERE paper = 'PH-1' AND number <> 1051")[0][0]
+        self.office("withdraw", f"{other:07}", "PH-1")
+        before = self.seats()
+        for _ in range(2):
+            self.browser.post(page + "/do", page, seen=seen)
+            self.assertIn("The office changed while you looked, so nothing was done.", self.browser.words(page))
+            self.assertEqual(self.seats(), before)
+        self.browser.post(page + "/do", page)
+        self.assertIn("What changed", self.browser.words(page))
+        self.browser.post(page + "/do", page, seen=seen)  # the other tab learns that it is done
+        self.assertNotIn("nothing was done", self.browser.words(page))
 
     def test_a_lodging_meanwhile_disturbs_nothing(self):
         page, _ = self.browser.post("/propose/withdraw", "/candidates/1051", number="0001051", paper="PH-1")

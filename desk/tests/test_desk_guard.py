@@ -187,7 +187,7 @@ class TestEntering(DeskSchool):
         self.assertIn("<title>Your visit has ended. Exam desk</title>", text)
         self.assertIn('tabindex="-1" autofocus>Your visit has ended.<', text)
         answer, _ = self.browser.ask("GET", "/office")
-        self.assertEqual(answer.headers["Location"], self.browser.prefix + "/enter")
+        self.assertEqual(answer.headers["Location"], self.browser.prefix + "/enter?ended=1")
         for values, place in (({"initials": "ab", "token": "x"}, "token"), ({"initials": "a b"}, "initials")):
             _, text = self.browser.ask("POST", "/enter", urllib.parse.urlencode(values))
             self.assertRegex(text, f'id="{place}"[^>]* autofocus')
@@ -327,7 +327,7 @@ class TestProcess(DeskSchool):
         self.office("summary")
         self.assertEqual(os.listdir(os.path.join(self.desk, "tmp")), [])
         self.start()
-        self.browser.token = other.token  # of a link to the desk that was killed
+        self.browser.token, self.browser.cookie = other.token, ""  # of a link to the desk that was killed
         self.assertEqual(self.browser.enter().status, 422)
 
     def children(self):
@@ -382,7 +382,7 @@ class TestProcess(DeskSchool):
 class TestIdle(unittest.TestCase):
     def test_a_visit_ends_after_eight_hours_without_a_click(self):
         done = subprocess.run([PYTHON, "-c", IDLE, DESK], capture_output=True, text=True, check=True)
-        self.assertEqual(done.stdout.split(), ["/", "/", "2", "/", "1", "/enter", "0"])  # the other one has no clicks
+        self.assertEqual(done.stdout.split(), ["/", "/", "2", "/", "1", "/enter?ended=1", "0"])  # the other one has no clicks
 
 
 @unittest.skipUnless(HAS_FLASK, "Flask or waitress is missing")

@@ -217,18 +217,18 @@ class TestPrinting(DeskSchool):
             _, text = self.browser.post("/candidates/1051/note", "/candidates/1051", 422, note=wrong)
             self.assertRegex(text, 'name="note"[^>]*aria-invalid="true"')
         self.assertEqual(self.office("notes"), f"0001051 Di Berg: {note}\n")
-        _, text = self.browser.post("/candidates/1051/note", "/candidates/1051", 422, note="mine", was="")
+        _, text = self.browser.post("/candidates/1051/note", "/candidates/1051", 422, note="mine", **{"was-note": ""})
         self.assertIn(f"somebody has changed it meanwhile; it says: <bdi>{note}</bdi>", html.unescape(text))
-        self.assertIn(f'name="was" value="{note}"', html.unescape(text))
-        self.browser.post("/candidates/1051/note", "/candidates/1051", note="", was=note)
+        self.assertIn(f'name="was-note" value="{note}"', html.unescape(text))
+        self.browser.post("/candidates/1051/note", "/candidates/1051", note="", **{"was-note": note})
         self.assertEqual(self.office("notes"), "")
-        _, text = self.browser.post("/candidates/1051/note", "/candidates/1051", 422, note="mine", was=note)
+        _, text = self.browser.post("/candidates/1051/note", "/candidates/1051", 422, note="mine", **{"was-note": note})
         self.assertIn("somebody has changed it meanwhile; it says: <bdi>–</bdi>", text)
         self.assertIn("None.", self.browser.words("/candidates/notes"))
         self.browser.post("/candidates/9999999/note", "/candidates/1051", 404, note="x")
         self.office("notes", self.write("notes.csv", "number,text\n0001051,\u202erest\n"))
         for given, kept in (("?rest", "\u202erest"), ("rest", "rest")):  # the page has a `?` for what hides in it
-            self.browser.post("/candidates/1051/note", "/candidates/1051", note=given, was="?rest")
+            self.browser.post("/candidates/1051/note", "/candidates/1051", note=given, **{"was-note": "?rest"})
             self.assertEqual(notebook.notes(self.value), {"0001051": kept})
 
     def test_who_was_absent_before_the_day(self):

@@ -1,0 +1,94 @@
+"""The desk in a browser in hurried hands: what is pressed twice, sent from an old page, or brought while much is there."""
+import re
+import unittest
+import urllib.parse
+
+from desk_client import MARK, STATE, DeskSchool
+
+ENTRIES = "number,paper\n0001051,{}\n"
+
+
+class TestPressedTwice(DeskSchool):
+    def twice(self, path, page, **values):
+        """The second answer, and its text, where a browser sends a form twice."""
+        text = self.browser.get(page)
+        state = re.search(STATE, text)
+        form = urllib.parse.urlencode({"mark": re.search(MARK, text)[1], "state": state[1] if state else "", **values})
+        self.browser.ask("POST", path, form)
+        return self.browser.ask("POST", path, form)
+
+    def test_a_note(self):
+        answer, text = self.twice("/candidates/1051/note", "/candidates/1051", **{"was-note": "", "note": "rest"})
+        self.assertEqual(answer.status, 303, re.findall('class="said.*', text))
+        self.assertEqual(self.office("notes"), "0001051 Di Berg: rest\n")
+
+    def test_a_link(self):
+        """Who is in comes in by the button that was pressed twice; under other initials nobody does."""
+        for initials, token, status in (("ab", self.browser.token, 303), ("cd", self.browser.token, 422), ("ab", "", 422)):
+            form = urllib.parse.urlencode({"token": token, "initials": initials})
+            self.assertEqual(self.browser.ask("POST", "/enter", form)[0].status, status)
+        said = "The desk is open in this browser already, with the initials ab . To the season"
+        self.assertIn(said, self.browser.words("/enter"))
+        self.browser.cookie = ""
+        self.assertNotIn("already", self.browser.words("/enter"))
+        self.assertEqual(self.browser.enter().status, 422)
+
+    def test_locked_in_two_tabs(self):
+        answer, text = self.twice("/leave", "/office")
+        self.assertEqual(answer.status, 401)
+        self.assertIn("Your visit has ended.", text)
+        self.assertNotIn("load this page again", text)  # it would lock the next visit
+
+
+class TestOldPages(DeskSchool):
+    def test_the_school(self):
+        """A field that is as the page showed it takes nothing away that another tab has typed."""
+        shown = {"was-name": "", "was-address": ""}
+        self.browser.post("/office/school", "/office", **shown, name="Hill", address="")
+        self.browser.post("/office/school", "/office", **shown, name="", address="https://hill.example")
+        self.assertEqual(self.office("school"), "Hill\nhttps://hill.example\n")
+        _, text = self.browser.post("/office/school", "/office", 422, **shown, name="Dale", address="")
+        self.assertIn("somebody has changed it meanwhile; it says: <bdi>Hill</bdi>", text)
+        self.assertIn('name="was-name" value="Hill"', text)
+        self.assertEqual(self.office("school"), "Hill\nhttps://hill.example\n")
+
+    def test_a_page_that_is_gone(self):
+        for path in "/proposals/gone/do", "/files/uploaded/gone/correct":
+            _, text = self.browser.post(path, "/", 404)
+            self.assertIn("what it was about is no longer there. Nothing was done.", text)
+        self.assertNotIn("Nothing was done", self.browser.get("/proposals/gone", 404))
+        self.assertIn("Only a form leads to this address, and none was sent. Nothing was done.",
+                      self.browser.get("/propose/enter", 405))
+
+    def test_a_visit_that_has_ended(self):
+        self.browser.post("/leave", "/office")
+        answer, _ = self.browser.ask("GET", "/candidates/1051")
+        self.assertEqual(answer.headers["Location"], f"{self.browser.prefix}/enter?ended=1")
+        self.browser.cookie = ""
+        self.assertEqual(self.browser.ask("GET", "/office")[0].headers["Location"], f"{self.browser.prefix}/enter")
+
+
+class TestManyUploads(DeskSchool):
+    def bring(self, name, content):
+        return self.browser.send("/files", "/files", "files", (name, content.encode()))[0]
+
+    def test_what_is_corrected_stays(self):
+        """What is imported, or was no table, goes first; of the rest the oldest, and the next page says so."""
+        first, second = (self.bring("a.csv", ENTRIES.format(paper)) for paper in ("NOPE", "CH-1"))
+        page, _ = self.browser.post("/propose/files", second, upload=second.rpartition("/")[2])
+        self.browser.post(page + "/do", page)
+        for number in range(5):
+            self.bring(f"{number}.pdf", str(number))
+        last = [self.bring(f"{paper}.csv", ENTRIES.format(paper)) for paper in ("LAT", "PH-1")]
+        self.assertIn("NOPE", self.browser.get(first))
+        self.bring("more.csv", ENTRIES.format("EN-1"))
+        self.assertNotIn("is no longer here", self.browser.words("/files"))
+        end = self.bring("end.csv", ENTRIES.format("MA-1"))
+        self.assertRegex(self.browser.words(end), r"The desk holds 4 uploads: a\.csv , uploaded 20\S+ \S+ , is no longer here\.")
+        self.browser.get(first, 404)
+        for page in last:
+            self.browser.get(page)
+
+
+if __name__ == "__main__":
+    unittest.main()
