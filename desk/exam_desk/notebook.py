@@ -76,8 +76,10 @@ def set_school_name(office: Office, name: str | None, page: str | None = None) -
     """Keeps the name, the address of the page, or both. Raises `Trouble`, and keeps nothing, where one of them has
     another form than a title."""
     given = {what: text for what, text in ((PAGE, page), (SCHOOL, name)) if text is not None}
-    if not all(files.is_name(text.encode("utf-8", "surrogateescape")) for text in given.values() if text):
-        raise Trouble("a name or an address has 1 to 80 bytes and no control characters; '' takes it away")
+    for what, text in given.items():
+        if text and not files.is_name(text.encode("utf-8", "surrogateescape")):
+            raise Trouble("a name or an address has 1 to 80 bytes and no control characters; '' takes it away",
+                          about="address" if what == PAGE else "name")
     for what, text in given.items():
         keep(office, what, lambda _: text)
         logbook.write_done(office, [SCHOOL], 0, text or f"no {'name' if what == SCHOOL else what}")

@@ -20,7 +20,7 @@ DESK = pathlib.Path(__file__).resolve().parent.parent
 sys.path.insert(0, str(DESK))
 from exam_desk import (appeals, backups, copies, files, keeping, mistakes, notebook, reasons, refusals,  # noqa: E402
                        second_sitting, typed, words)
-from exam_desk.workbook import cells, opening  # noqa: E402
+from exam_desk.workbook import cells, opening, values  # noqa: E402
 from exam_web import proposals, wording  # noqa: E402
 
 DAYS = [datetime.date(2027, 3, day) for day in range(1, 8)]
@@ -65,6 +65,8 @@ FORMED = [*mistakes.CURES.values(), mistakes.EMPTY_ROW, files.NO_UTF_8, *(
           *filter(re.compile(r"^session \{|^[^;]+ [^;]+; nothing is changed$").search, sentences(second_sitting)),
           *filter(re.compile("^nothing is noted|nobody can have been").search, sentences(notebook)),
           *filter(re.compile("is no candidate number").search, sentences(typed)),
+          *filter(re.compile(r"is meant$|is meant \(|\d} digits;|none of the|two digits|too, |^there is no|cell says|is no \{1"
+                             r"|Write |not a time").search, sentences(values)), "has seconds: {0}",
           "NOTE: who only did not come stays entered: `office absent {0} {1}` notes it",
           *(f"{{0}} {word}" for word in ("number", "numbers", "candidate", "candidates", "desk", "desks", "(new)")),
           "{0} and {1} more", "line {0}"]
