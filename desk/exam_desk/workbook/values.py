@@ -260,7 +260,7 @@ def read_date(column: str, cell: Cell, text: str, way: Way) -> Value:
     if weekday := said.get("weekday", "").lower():
         day = datetime.date.fromisoformat(value.text)
         if len(weekday) < 2 or not any(name.startswith(weekday) for name in WEEKDAYS[day.weekday()].split()):
-            raise Wrong(f"{day} is no {said['weekday']}: write the date alone")
+            raise Wrong(f"{day} is a {day:%A}, and the cell says {said['weekday']}: write the date alone")
     return value
 
 
