@@ -7,7 +7,7 @@ from typing import TypeVar
 from exam_desk import facts
 from exam_desk.reading import Member, Person, Reading, Sitting
 from exam_desk.office import Trouble
-from exam_desk.words import plain
+from exam_desk.words import Said, plain
 
 LETTERS = str.maketrans({"ø": "o", "æ": "ae", "œ": "oe", "ł": "l", "đ": "d", "ð": "d", "þ": "th", "ı": "i",
                          "‘": "'", "’": "'", "ʼ": "'", "‐": "-", "–": "-"})
@@ -75,7 +75,10 @@ def count(number: int, thing: str) -> str:
     return f"{number:,} {thing}{'' if number == 1 else 's'}"
 
 
+def allowed(sitting: Sitting) -> list[str | Said]:
+    """The arrangement in force, in parts; none where there is none."""
+    return [*([Said("{extra} % extra time", {"extra": sitting.extra})] if sitting.extra else []), *sitting.needs]
+
+
 def allowance(sitting: Sitting) -> str:
-    """The arrangement in force in words; nothing where there is none."""
-    extra = [f"{sitting.extra} % extra time"] if sitting.extra else []
-    return ", ".join([*extra, *sitting.needs])
+    return ", ".join(map(str, allowed(sitting)))

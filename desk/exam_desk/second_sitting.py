@@ -215,7 +215,7 @@ def lines(planned: Plan, before: Reading, after: Reading) -> list[str | Said]:
     refuse_otherwise(planned, after, first, second)
     sits = {**second.sitting._asdict(), "person": person, "first": first.paper, "until": lacking(first.finish, first)}
     shown: list[str | Said] = [planned.made, Said(SITS, sits)]
-    one, other = (lists.allowance(each) or Said("none", {}) for each in (first, second.sitting))
+    one, other = (lists.allowed(each) or [Said("none", {})] for each in (first, second.sitting))
     return shown if one == other else [*shown, Said(ARRANGED, {
         "person": person, "one": one, "first": first.session, "other": other, "session": planned.session})]
 

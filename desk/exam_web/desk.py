@@ -214,7 +214,7 @@ def lead(endpoint: str, said: Markup | None = None, kind: str = "good", **values
 
 def tell_papers() -> None:
     """Has the next page say which printed papers are out of date, by session, since the notebook was changed."""
-    g.visit.said += [("bad", text("The papers of {session} are out of date: {halls}", session=session,
+    g.visit.said += [("bad", text("The printed papers of {session} are out of date: {halls}", session=session,
                                   halls=", ".join(sorted({*sum(found.values(), [])})) or text("no hall")))
                      for session, found in on_paper.otherwise(desk().office).items()]
 

@@ -100,7 +100,7 @@ def back(key: str) -> Response:
                                                 lambda lines: ticked.issuperset(map(str, lines)),
                                                 request.form.get("state", ""))
     except Stale:
-        other = text("Nothing is changed: the office is another than the page showed. This is how it stands now.")
+        other = text("Nothing is changed: the office is not as the page showed it. This is how it stands now.")
         return lead("office.copy", other, "bad", key=key)
     if not is_back:
         raise Wrong(("office.copy", {"key": key}), lost=text("tick each of these, or leave the office as it is"))
@@ -149,7 +149,7 @@ def keep() -> Response:
     what, port = request.form.get("what"), request.form.get("port", 0, int)
     if what == "stop":
         keeping.stop(office())
-        return lead("office.page", text("Candidates are not served any more."))
+        return lead("office.page", text("The candidates' page is not served any more."))
     if what != "start":
         abort(400)
     if not LOWEST_PORT <= port <= HIGHEST_PORT:

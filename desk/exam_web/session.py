@@ -139,8 +139,7 @@ def absent(code: str) -> Response:
     with at_field(shown.page, "numbers"):
         found = notebook.note_absent(office(), view().reading, code, [*(ticked - was), *typed], was - ticked,
                                      "nobody" in request.form)
-    told = many(len(found), "{count} candidate is noted as absent in {session}.",
-                "{count} candidates are noted as absent in {session}.", session=code)
+    told = many(len(found), "{count} candidate is noted as absent.", "{count} candidates are noted as absent.")
     return lead("session.page", told, code=code)
 
 
@@ -182,13 +181,11 @@ def note_printed(code: str) -> Response:
     """Notes that the sheets are printed, if the office is as the page beside them showed it."""
     Session(code)
     if request.form.get("state") != view().name:
-        told = text("Nothing is noted: the office is another than the page showed. Print the sheets again.")
+        told = text("Nothing is noted: the office is not as the page showed it. Print the sheets again.")
         return lead("session.page", told, "bad", code=code)
     desks, _ = on_paper.note(office(), view().reading, code)
-    told = many(desks,
-                "{count} desk of {session} is noted as printed, of state {state}; the foot of papers must say that.",
-                "{count} desks of {session} are noted as printed, of state {state}; the foot of papers must say that.",
-                session=code, state=view().reading.mark)
+    told = text("Noted as printed: {desks} of {session}. The foot of each sheet must say state {state}.", session=code,
+                desks=many(desks, "{count} desk", "{count} desks"), state=view().reading.mark)
     return lead("session.page", told, code=code)
 
 
@@ -220,7 +217,7 @@ def close_hall(form: Form) -> Plan:
         page = ("proposals.page", {"key": first}) if first in g.visit.proposals else shown.page
         plan = opening(form, page)
         if plan.values["hall"] == lost:
-            raise Wrong(page, hall=text("this is the hall that is lost"))
+            raise Wrong(page, hall=text("this is the hall that is lost: choose another"))
     plan.values["lost"], plan.fields[25], plan.halls = lost, "lost", shown.choices()
     plan.steps.append(command("close-hall", ["session", "lost"], plan.values))
     plan.command = ", ".join(filter(None, [plan.command, plan.steps[-1].title()]))

@@ -107,8 +107,8 @@ def parts(upload: Upload, storages: Iterable[FileStorage]) -> Iterator[tuple[str
         if name.lower().endswith(".zip"):
             try:
                 yield from members(upload, name, zipfile.ZipFile(storage.stream))
-            except backups.UNREADABLE as fault:
-                upload.note(name, text("it cannot be read: {why}", why=str(fault)))
+            except backups.UNREADABLE:
+                upload.note(name, text("it is no zip, or broken, or has a password: zip the files again"))
         elif name:
             content = storage.stream.read()
             yield name, content, MOST_FILE if content.startswith(b"PK") else files.MOST_BYTES
@@ -327,7 +327,7 @@ def correct(key: str) -> Response:
     """Values typed beside mistakes, or all cures that are clear; the officer's own files stay as they are."""
     found: Upload = g.visit.uploads.get(key) or abort(404)
     if request.form.get("corrected", found.corrected, int) != found.corrected:
-        told = text("Nothing is corrected: the rows are others than the page showed. This is how they stand now.")
+        told = text("Nothing is corrected: the rows are not as the page showed them. This is how they stand now.")
         return lead("files.look", told, "bad", key=key)
     rows, found.corrected = 0, found.corrected + 1
     for kind, looked in looked_through(found).items():
@@ -378,8 +378,7 @@ def with_codes(upload: Upload, page: Page, form: Form) -> dict[str, bytes]:
         return {}
     rows, made = coding.filled(coding.read(content, "candidates.csv"), facts.access_codes(view().reading.rows))
     if made and not form.get("codes"):
-        raise Wrong(page, codes=text(
-            "without an access code no candidate is imported: tick below that the desk makes them"))
+        raise Wrong(page, codes=text("tick that the desk makes access codes: nobody is imported without one"))
     return {"candidates": files.file_of("candidates", rows)}
 
 
@@ -397,8 +396,7 @@ def withdraw_list(upload: Upload, what: str, page: Page, done: Callable[[], None
                  row=b" ".join(fields).decode("utf-8", "replace"))
             for fields, line in lines.items() if fields not in fitting]
     if not 0 < len(steps) <= MOST_LISTED:
-        counted = text("this can be done to {count} of the rows; a list has 1 to {most} such", count=len(steps),
-                       most=MOST_LISTED)
+        counted = text("rows that fit: {count}; there must be 1 to {most}", count=len(steps), most=MOST_LISTED)
         raise Wrong(page, choice=Markup("; ").join([counted, *left[:MOST_NAMED]]))
     more = [text("and {count} more", count=len(left) - MOST_SHOWN)] * (len(left) > MOST_SHOWN)
     return Plan({"kinds": "entries", "choice": what, "count": str(len(steps))}, steps, page, done=done,

@@ -18,9 +18,9 @@ from jinja2 import nodes
 
 DESK = pathlib.Path(__file__).resolve().parent.parent
 sys.path.insert(0, str(DESK))
-from exam_desk import (appeals, backups, copies, files, keeping, mistakes, notebook, reasons, refusals,  # noqa: E402
-                       second_sitting, typed, words)
-from exam_desk.workbook import cells, opening  # noqa: E402
+from exam_desk import (appeals, backups, copies, files, keeping, lodging, mistakes, notebook, reasons,  # noqa: E402
+                       refusals, second_sitting, snapshot, turns, typed, words)
+from exam_desk.workbook import cells, child, ods, opening, values, xlsx  # noqa: E402
 from exam_web import proposals, wording  # noqa: E402
 
 DAYS = [datetime.date(2027, 3, day) for day in range(1, 8)]
@@ -57,7 +57,11 @@ def sentences(module):
 
 OF_KEEP = re.compile("^serving {|^process {|^no answer within|^`keep` (runs|does)|^the last line|"
                      r"cannot be had: \{1")
-FORMED = [*mistakes.CURES.values(), mistakes.EMPTY_ROW, files.NO_UTF_8, *(
+OF_FILES = re.compile(r"^it (has|is|takes|asks|holds) .* |^its (XML|part)|MB come out|^a (part|quote|piece|cell) |^one of its rows|"
+                      r"^the sheet \{0} holds|^\{0} holds no office|made \{0};|seconds are over|with the day")
+FORMED = [*filter(OF_FILES.search, itertools.chain(*map(sentences, [
+    cells, child, ods, opening, xlsx, snapshot, turns, lodging]))), cells.OPEN_AND_SAVE,
+          *mistakes.CURES.values(), mistakes.EMPTY_ROW, files.NO_UTF_8, *(
     each for module in (mistakes, refusals) for each in sentences(module)
           if re.search(r"[a-z]{2,}\b.* |.* .*\b[a-z]{2,}", each) and not OF_COMMANDS.search(each)),
           *filter(OF_KEEP.search, sentences(keeping)), "Address already in use",
@@ -65,6 +69,8 @@ FORMED = [*mistakes.CURES.values(), mistakes.EMPTY_ROW, files.NO_UTF_8, *(
           *filter(re.compile(r"^session \{|^[^;]+ [^;]+; nothing is changed$").search, sentences(second_sitting)),
           *filter(re.compile("^nothing is noted|nobody can have been").search, sentences(notebook)),
           *filter(re.compile("is no candidate number").search, sentences(typed)),
+          *filter(re.compile(r"is meant$|is meant \(|\d} digits;|none of the|two digits|too, |^there is no"
+                             r"|Write |not a time").search, sentences(values)), "has seconds: {0}",
           "NOTE: who only did not come stays entered: `office absent {0} {1}` notes it",
           *(f"{{0}} {word}" for word in ("number", "numbers", "candidate", "candidates", "desk", "desks", "(new)")),
           "{0} and {1} more", "line {0}"]

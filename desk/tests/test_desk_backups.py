@@ -54,7 +54,7 @@ class TestBroughtBack(Backups):
         for said in (name, "What would change", "1 would join a session", f"lost: tick each {lost}",
                      "What was done since", "withdraw 0001051 PH-1", f"{name} a backup of 2020-01-02 03:04:06 , brought on 20"):
             self.assertIn(said, words)
-        self.assertIn(f"Einspruch D1 von 0001119 für MON-AM: offen → nicht mehr da ({person})",
+        self.assertIn(f"Antrag D1 von 0001119 für MON-AM: offen → nicht mehr da ({person})",
                       re.sub("<.*?>", "", self.browser.ask("GET", page, headers={"Accept-Language": "de"})[1]))
         self.assertIn(f"{name} a backup that you brought", self.browser.words("/office"))
         self.put_back(page, 422)

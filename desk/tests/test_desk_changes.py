@@ -104,7 +104,7 @@ class TestRehearsal(DeskSchool):
         page, _ = self.browser.post("/propose/close", "/sessions/MON-AM", **form)
         self.assertIn("Close GYM for MON-AM , and have R14 with 30 desks until 14:00", self.browser.words(page))
         _, text = self.browser.post("/propose/close", "/sessions/MON-AM", 422, **{**form, "hall": "GYM"})
-        self.assertIn("this is the hall that is lost", text)
+        self.assertIn("this is the hall that is lost: choose another", text)
 
     def test_a_hall_that_the_office_does_not_know_yet(self):
         new = {"new_hall": "TENT", "new_title": "Tent <b>", "new_features": ["screen", "step-free"], "desks": "30",
@@ -502,7 +502,7 @@ class TestBesideKeep(DeskSchool):
         self.addCleanup(self.run_office, "keep", "stop")
         self.assertRegex(self.browser.get("/office"), f'<p class="said good">[^/]*127.0.0.1 {port}')
         _, text = self.browser.post("/office/keep", "/office", 422, what="start", port=str(port))
-        self.assertIn("candidates are served already; the page Office says where", text)
+        self.assertIn("the candidates' page is served already; the page Office says where", text)
         stop, answers = threading.Event(), []
 
         def ask():
@@ -528,7 +528,7 @@ class TestBesideKeep(DeskSchool):
         self.browser.post("/office/keep", "/office", what="stop")
         self.assertIn("not served", self.browser.words("/office"))
         _, text = self.browser.post("/office/keep", "/office", 409, what="stop")  # another tab has stopped it
-        self.assertIn("candidates are not served", text)
+        self.assertIn("the candidates' page is not served", text)
 
 
 class TestManyOfficers(DeskSchool):

@@ -129,7 +129,7 @@ class TestFiles(Uploads):
             self.assertNotIn("office take", words)
         self.assertIn('name="codes" value="1" required', self.browser.get(page))  # so the browser asks for it there
         _, text = self.browser.post("/propose/files", page, 422, upload=page.rsplit("/", 1)[1])
-        self.assertIn('<a href="#at-files-codes">Access code</a>: without an access code', text)
+        self.assertIn('<a href="#at-files-codes">Access code</a>: tick that the desk makes access codes', text)
         self.assertRegex(text, 'name="codes"[^>]* id="at-files-codes"')
         proposal = self.propose(page, codes="1")
         self.carry_out(proposal)
@@ -478,7 +478,7 @@ class TestFiles(Uploads):
         self.assertNotIn('name="choice"', self.browser.get(page), "none of them can be withdrawn")
         self.assertIn("Import entries", self.browser.words(self.propose(page)))
         _, text = self.browser.post("/propose/files", page, 422, upload=page[-12:], choice="withdraw")
-        self.assertRegex(text, 'id="fault-files-choice"[^>]*>this can be done to 0 of the rows')
+        self.assertRegex(text, 'id="fault-files-choice"[^>]*>rows that fit: 0;')
         self.assertEqual((text.count('id="at-files-choice"'), text.count('describedby="fault-files-choice"')), (1, 3))
         page = self.upload(("june.csv", f"number,paper\n{''.join(live[:2] + new[:1])}".encode()))
         self.propose(page, 422)
@@ -498,7 +498,7 @@ class TestFiles(Uploads):
         page = self.upload(("l.csv", f"{text}{number},EN-1\n".encode()))
         _, text = self.browser.post("/propose/files", page, 422, upload=page[-12:], choice="withdraw")
         fault = re.sub("<.*?>", "", text.partition('id="fault-files-choice"')[2].partition("</span>")[0])
-        self.assertIn(f"this can be done to 0 of the rows; a list has 1 to 300 such; line 2, {number} EN-1, is left out: "
+        self.assertIn(f"rows that fit: 0; there must be 1 to 300; line 2, {number} EN-1, is left out: "
                       "it is no entry that counts", fault)
 
     def test_what_is_called_withdrawals_is_never_imported_unasked(self):
@@ -557,7 +557,7 @@ class TestFiles(Uploads):
             archive.writestr("deep/bomb.csv", b"number,name,code\n" + bytes(50_000_000))
         self.assertIn("more than 4194304 bytes", self.browser.words(self.upload(("all.zip", out.getvalue()))))
         for content in b"PK no zip", *misleading({"entries.csv": b"number,paper\n"}):
-            self.assertIn("cannot be read", self.browser.words(self.upload(("bad.zip", content))))
+            self.assertIn("it is no zip", self.browser.words(self.upload(("bad.zip", content))))
         out = io.BytesIO()
         with zipfile.ZipFile(out, "w") as archive:
             for place in range(65):
@@ -574,7 +574,7 @@ class TestFiles(Uploads):
         self.assertIn("none.zip : it holds 0 files", self.browser.words(self.upload(("none.zip", zipped({})))))
         broken = bytearray(zipped({"a.csv": b"x" * 99}, zipfile.ZIP_LZMA))
         broken[-80] ^= 255
-        self.assertIn("bad.zip : it cannot be read: Corrupt", self.browser.words(self.upload(("bad.zip", bytes(broken)))))
+        self.assertIn("bad.zip : it is no zip, or broken, or has a password: zip the files again", self.browser.words(self.upload(("bad.zip", bytes(broken)))))
         nameless = zipped({"~~~": b"", "halls.csv": HALLS}, zipfile.ZIP_STORED).replace(b"~~~", b"\0~~")
         self.assertIn("No mistake", self.browser.words(self.upload(("nameless.zip", nameless))))
 
@@ -595,7 +595,7 @@ class TestFiles(Uploads):
         was = re.search('name="corrected" value="([^"]*)"', self.browser.get(page))[1]
         self.browser.post(page + "/correct", page, corrected=was, **{"halls:3:row": "drop"})
         self.browser.post(page + "/correct", page, corrected=was, **{"halls:4:features": "computer"})
-        self.assertIn("Nothing is corrected: the rows are others", self.browser.words(page))
+        self.assertIn("Nothing is corrected: the rows are not as the page showed them", self.browser.words(page))
         self.assertRegex(self.browser.ask("GET", page + "/halls.csv")[1], 'PC"\n.*"PX"')
 
     def test_broken_files(self):

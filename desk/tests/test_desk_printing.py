@@ -64,7 +64,7 @@ class TestPrinting(DeskSchool):
         self.assertIn("nobody noted", self.refused("printed", "MON-AM", "--look"))
         self.assertIn("Nobody has noted yet", self.browser.words(self.PRINTED + "?piece"))
         self.browser.post(self.PRINTED, "/sessions/MON-AM")
-        self.assertRegex(self.browser.words("/sessions/MON-AM"), r"\d+ desks of MON-AM are noted as printed")
+        self.assertRegex(self.browser.words("/sessions/MON-AM"), r"Noted as printed: \d+ desks of MON-AM")
         self.assertEqual(self.office("printed", "MON-AM", "--look"), "the papers are up to date\n")
         self.assertRegex(self.log(), r"(?m)^\S+ \d\d:\d\d:\d\d\t\S+ \(ab, desk\)\tprinted MON-AM\t0\t\d+ desks noted, .*$")
         self.assertIn("still right", self.browser.words(self.PRINTED))
@@ -83,7 +83,7 @@ class TestPrinting(DeskSchool):
                          r"0001306 AULA desk 1 AULA desk \d+ Note: – → one ")
 
     def test_a_note_that_is_not_on_paper(self):
-        said = "The papers of MON-AM are out of date: AULA"
+        said = "The printed papers of MON-AM are out of date: AULA"
         for note, is_said in (("a scribe", False), ("two", True), ("a scribe", False)):
             self.browser.post("/candidates/1306/note", "/candidates/1306", note=note)
             self.assertEqual(said in self.browser.words("/candidates/1306"), is_said, note)
@@ -93,7 +93,7 @@ class TestPrinting(DeskSchool):
     def test_rows_and_the_school_say_so_at_once(self):
         self.office("rows", "AULA", "6")
         self.office("printed", "MON-AM")
-        said = "The papers of MON-AM are out of date: AULA"
+        said = "The printed papers of MON-AM are out of date: AULA"
         self.browser.post("/sessions/MON-AM/draw", "/sessions/MON-AM/halls/AULA", hall="AULA",
                           **{"across-AULA": "4", "running-AULA": "down"})
         self.assertRegex(self.browser.words("/sessions/MON-AM"), f"{said} ")
@@ -109,7 +109,7 @@ class TestPrinting(DeskSchool):
         self.assertIn("AULA: Open until: 12:30 → 13:00", found)
         self.assertIn("AULA: Desks in a row: 6, along the rows → 4, down and up", found)
         self.assertNotIn("not as on paper", found)
-        self.assertIn("The papers of MON-AM are out of date: AULA", self.browser.words("/?piece"))
+        self.assertIn("The printed papers of MON-AM are out of date: AULA", self.browser.words("/?piece"))
         path = pathlib.Path(self.desk, "notebook", "printed.MON-AM.json")  # of a backup that somebody made by hand
         path.write_text(path.read_text("ascii").replace('"6 across"', '"6<b>"'), "ascii")
         self.assertIn("AULA: Desks in a row: 6<b>, → 4, down and up", self.browser.words(self.PRINTED + "?piece"))
@@ -298,7 +298,7 @@ class TestTheDay(DeskSchool):
         self.assertIn(self.NOTHING_NOTED, self.browser.words(page))
         self.browser.post(page + "/absent", page, numbers="1051; 0001119 ")
         said = self.browser.words(page)
-        self.assertIn("2 candidates are noted as absent in MON-AM", said)
+        self.assertIn("2 candidates are noted as absent.", said)
         self.assertNotIn(self.NOTHING_NOTED, said)
         self.browser.post(page + "/absent", page + "/halls/PC1", absent=["0001051"], was=["0001051", "0001119"])
         text = self.browser.get(page + "/halls/PC1")
@@ -346,7 +346,7 @@ class TestTheDay(DeskSchool):
         self.office("absent", "MON-AM", "0001051")
         self.assertNotIn("lacks them", self.browser.words(page))
         gone, _ = self.browser.post("/propose/withdraw", "/candidates/1051", number="0001051", paper=["CS-1", "LAT"])
-        self.assertIn("who only did not come stays entered: `office absent MON-AM 0001051` notes it",
+        self.assertIn("who only did not come stays entered: note the absence of 0001051 on the page of MON-AM",
                       self.browser.words(gone))
         self.browser.post(gone + "/do", gone)
         text, said = self.browser.get(page), self.browser.words(page)

@@ -300,7 +300,7 @@ class TestHearing(DeskSchool):
                 ("/propose/withdraw", "/candidates/1000", {"number": "0001000", "paper": "no", "key": "EN-1"},
                  "Paper: 1 to 12 of A-Z"),
                 ("/propose/close", "/sessions/MON-AM", {"session": "MON-AM", "lost": "NONE", "key": "GYM"}, "Hall: "),
-                ("/sessions/MON-AM/absent", "/sessions/MON-AM", {"numbers": "x"}, "Numbers; zeros in front may be"),
+                ("/sessions/MON-AM/absent", "/sessions/MON-AM", {"numbers": "x"}, "Numbers: MON-AM is on 2027-06-07"),
                 ("/sessions/MON-AM/draw", "/sessions/MON-AM/halls/GYM", {"hall": "GYM", "across-GYM": "0"},
                  "Desks in a row GYM: a whole number from 1 to 100")):
             text = re.sub("</?bdi>", "", self.browser.post(where, page, 422, **values)[1])
@@ -333,7 +333,7 @@ class TestHearing(DeskSchool):
                 (self.done("/office/school", "/office", name="Hill"), "done: Office", "It is kept, and stands on what"),
                 (self.done(monday + "/draw", monday, **{"hall": "GYM", "across-GYM": "6", "running-GYM": "down"}),
                  "done: MON-AM", "GYM is drawn so now."),
-                (self.done(monday + "/printed", monday), "done: MON-AM", "58 desks of MON-AM are noted as printed"),
+                (self.done(monday + "/printed", monday), "done: MON-AM", "Noted as printed: 58 desks of MON-AM"),
                 (self.done(monday + "/printed", monday, state="x"), "Not done: MON-AM", "Nothing is noted: the office")):
             self.assertEqual(found[0], title)
             self.assertTrue(found[1].startswith(said), found)
@@ -423,7 +423,7 @@ class TestSchool(DeskSchool):
         for wrong, field in ({**form, "address": "a\nb"}, "address"), ({"name": "x" * 81, "address": ""}, "name"):
             _, text = self.browser.post("/office/school", "/office", 422, **wrong)
             self.assertEqual(re.findall('name="([a-z]+)"[^>]* aria-invalid="true"', text), [field])
-            self.assertIn("a name or an address has 1 to 80 letters", text)
+            self.assertIn("1 to 80 letters", text)
         self.browser.post("/office/school", "/office", **form)
         self.assertEqual(self.office("school"), "Hill\nhttps://hill.example\n")
         self.assertEqual(self.log().count("school"), 2)  # nothing that is as it was

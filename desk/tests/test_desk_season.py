@@ -117,7 +117,7 @@ class TestWhatNeedsAPerson(DeskSchool):
             self.environment["TODAY"] = today
             self.start()
             self.assertEqual(self.line("/", begin), (said, f"/sessions/{said.split(',')[0]}#absent"))
-            self.assertEqual("the office is not served" in self.browser.words("/"), today == "2027-06-08")  # before the end
+            self.assertEqual("page is not served" in self.browser.words("/"), today == "2027-06-08")  # before the end
             self.office("absent", "MON-AM", "--nobody")
 
     def test_the_most_urgent_stands_first(self):
@@ -130,7 +130,7 @@ class TestWhatNeedsAPerson(DeskSchool):
         self.assertEqual(urgent, sorted(urgent))
         self.assertGreater(len(self.links("/?piece")), len(self.links("/")))
         for begin, link in (("1 open appeal for MON-AM: 1 hall", "/appeals#MON-AM"), (
-                "Candidates cannot ask for their seats: the office is not served", "/office#serve"),
+                "Candidates cannot look up their seats: the candidates' page is not served", "/office#serve"),
                 ("2 candidates without a desk in MON-PM", "/sessions/MON-PM#short")):
             self.assertEqual(self.line("/", begin), ("", link))
         new = [f"X{number}" for number in range(10, 20)]  # sessions without a hall

@@ -51,22 +51,25 @@ class TestTexts(unittest.TestCase):
         said = ["write no (yes or no)", "no papers are known, so these are not compared",
                 "2 in place of 3 fields; values are missing", "write <b>no (yes or no)", "line 1 must be: number,group",
                 "`keep` does not run; the last line of /a/keep.log: 127.0.0.1 80 cannot be had: Address already in use",
-                "nothing of it"]
+                "there is no day 2027-13-08", "2027-06-01 or 2027-01-06? Write it so", "write 12:30 if that is meant",
+                "pc is none of the features (seven digits)", "has seconds: seven digits", "nothing of it"]
         done = subprocess.run([PYTHON, "-B", "-c", SAY, DESK, *said], capture_output=True, text=True, check=True)
         self.assertEqual(re.sub("</?bdi>", "", done.stdout).splitlines(), [
             "no schreiben (yes oder no)", "papers: keine bekannt, also wird das nicht verglichen",
             "2 statt 3 Felder; es fehlen Werte", "&lt;b&gt;no schreiben (yes oder no)",
-            "die erste Zeile muss so heißen: number,group", "die Seite der Prüflinge läuft nicht; die letzte Zeile von "
+            "die erste Zeile muss lauten: number,group", "die Seite für Prüflinge läuft nicht; die letzte Zeile von "
             '/a/keep.log: <bdi lang="en">127.0.0.1 80 ist nicht zu haben: schon belegt; einen anderen Port nehmen',
-            '<bdi lang="en">nothing of it'])
+            "den Tag 2027-13-08 gibt es nicht", "2027-06-01 oder 2027-01-06? Bitte so schreiben",
+            "12:30 schreiben, wenn das gemeint ist", "pc gehört nicht zur Ausstattung (sieben Ziffern)",
+            "hat Sekunden: sieben Ziffern", '<bdi lang="en">nothing of it'])
 
 
 class TestGerman(DeskSchool):
     def test_every_page(self):
         for path, words in (("/", "Zu tun"), ("/sessions/MON-AM", "Räume"), ("/candidates/1051", "Prüfungsplan"),
-                            ("/files", "Dateien"), ("/sessions/MON-AM", "Sitzpläne"), ("/clashes", "Zweite Sitzung"),
-                            ("/clashes", "Mo 7. Juni"), ("/sessions/MON-AM/halls/PC1", "hin und zurück"),
-                            ("/nothing", "Nicht hier"), ("/office", "Protokoll")):
+                            ("/files", "Dateien"), ("/sessions/MON-AM", "Sitzpläne"), ("/clashes", "Zweiter Durchgang"),
+                            ("/clashes", "Mo, 7. Juni"), ("/sessions/MON-AM/halls/PC1", "hin und zurück"),
+                            ("/nothing", "Nicht gefunden"), ("/office", "Protokoll")):
             answer, text = self.browser.ask("GET", path, headers=GERMAN)
             self.assertIn(words, html.unescape(text))
             self.assertIn('lang="de"', text)
@@ -135,23 +138,23 @@ class TestNoEnglish(DeskSchool):
         self.assertIn("0001051 Di Berg schreibt CS-1 bis 11:00 und LAT-2 von 11:00 bis 12:30 in R14, Platz 1", said)
         for values, wrong in (({"start": "10:30"}, "0001051 schreibt CS-1 bis 11:00: dann oder später beginnen"),
                               ({"paper": "CS-1", "start": "10:30"}, "0001051 hätte in R14 keinen Platz (kein computer)"),
-                              ({"paper": "PH-1"}, "0001051 hat keine andere Prüfung an TUE-AM"),
+                              ({"paper": "PH-1"}, "0001051 hat am Termin TUE-AM keine andere Prüfung"),
                               ({"hall": "ZZ"}, "das Büro hat keinen Raum ZZ")):
             self.assertIn(wrong, self.page("/propose/second", **{**form, **values}))
         self.office("second-sitting", "0001051", "LAT", "11:00", "R14", "--yes")
         said = self.page("/propose/second-back", number="0001051", paper="LAT", key="LAT")
         self.assertIn("0001051 Di Berg schreibt wieder CS-1 und versäumt LAT", said)
-        self.assertIn("Termin MON-AM-2 und Prüfung LAT-2 bleiben, leer", said)
+        self.assertIn("Termin MON-AM-2 und Prüfung LAT-2 bleiben, ohne Prüflinge", said)
 
     def test_absences(self):
-        for numbers, wrong in (("", "nichts ist vermerkt: es steht keine Nummer da"),
+        for numbers, wrong in (("", "nichts ist vermerkt: Es ist keine Nummer angegeben"),
                                ("9999999 8", "nichts ist vermerkt: 0000008, 9999999: kein Prüfling von MON-AM"),
-                               ("x", "'x' ist keine Nummer eines Prüflings")):
+                               ("x", "'x' ist keine Prüflingsnummer")):
             self.assertIn(wrong, self.page("/sessions/MON-AM/absent", numbers=numbers))
         self.page("/sessions/MON-AM/absent", numbers="1051")
         self.assertIn("nichts ist vermerkt, denn diese sind abwesend: 0001051",
                       self.page("/sessions/MON-AM/absent", nobody="1"))
-        self.assertIn("TUE-AM ist am 2027-06-08: vor diesem Tag", self.page("/sessions/TUE-AM/absent", numbers="1051"))
+        self.assertIn("TUE-AM ist am 2027-06-08: Vor diesem Tag", self.page("/sessions/TUE-AM/absent", numbers="1051"))
 
 
 if __name__ == "__main__":

@@ -12,8 +12,8 @@ import unittest
 import breaking
 import sample
 import test_changing
-from exam_desk import second_sitting
-from exam_desk.reading import Reading
+from exam_desk import lists, second_sitting
+from exam_desk.reading import Reading, Sitting
 
 KILLS, SEED = 5, 20271129
 STEPS = ["import sessions", "import papers", "import openings", "import entries", "withdraw 0000003"]
@@ -393,8 +393,10 @@ class LeftBehind(SecondSitting):
         from exam_web import wording
         with Flask(__name__).test_request_context(headers={"Accept-Language": "de"}):
             said = wording.said(second_sitting.Said(second_sitting.STAYS, {"papers": ["A-2", "<b>"]}))
+            allowed = wording.shown(lists.allowed(Sitting("S", "2027-06-07", "09:00", "A", "10:30", ("quiet",), 25, "", 1)))
         self.assertIn("<bdi>A-2</bdi>, <bdi>&lt;b&gt;</bdi>", said)
-        self.assertTrue(said.startswith("HINWEIS: zweite Sitzungen bleiben"), said)
+        self.assertTrue(said.startswith("HINWEIS: zweite Durchgänge bleiben"), said)
+        self.assertEqual(allowed, "25 % Zeitzuschlag, <bdi>quiet</bdi>")
 
 
 class Pairs(SecondSitting):

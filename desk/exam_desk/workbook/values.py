@@ -232,8 +232,8 @@ def read_features(column: str, cell: Cell, text: str, way: Way) -> Value:
         short = re.sub("[ _-]", "", part)
         meant = taught.get(part) or SHORT_FEATURES.get(short)
         if meant is None:
-            near = f"; {NEAR[short]}?" if short in NEAR else ""
-            raise Wrong(f"{part} is none of the features{near} ({mistakes.FEATURES_CURE})")
+            what = f"{part} ({NEAR[short]}?)" if short in NEAR else part
+            raise Wrong(f"{what} is none of the features ({mistakes.FEATURES_CURE})")
         found.update(meant.split("+"))
     value = "+".join(name for name in FEATURES if name in found) or "-"
     return Value(value, "in the office's words and order" if value != text else "")
@@ -282,8 +282,8 @@ def slashed(first: int, second: int, year: str, way: Way) -> Value:
                          f", {way.dates}" if way.dates else "")
     if not dates:
         raise Wrong(f"is no date with the {way.dates.replace('-', ' ')}" if way.dates else mistakes.CURES["date"])
-    options = way.or_say("--dates day-first or --dates month-first")
-    raise Wrong(f"{' or '.join(dates.values())}? Write it so{options}")
+    one, other = dates.values()
+    raise Wrong(f"{one} or {other}? Write it so" + way.or_say("--dates day-first or --dates month-first"))
 
 
 # -- times of day, minutes, desks and percent
