@@ -258,6 +258,7 @@ class TestFiles(Uploads):
             self.browser.send("/files", "/files", "files", hidden, status=422)  # as if nothing were chosen
         page = self.upload(("all.zip", zipped({"__MACOSX/._halls.csv": b"\0\5", ".DS_Store": b"\0", "halls.csv":
                                                b"hall,title,features\nR20,Room,-\n"})))
+        self.browser.get(page)  # it says once that an older upload is gone
         self.assertNotIn('class="said', self.browser.get(page))
 
     def test_two_files_of_a_kind(self):
