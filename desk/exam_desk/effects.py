@@ -22,6 +22,7 @@ FIGURES = ("SELECT code, coalesce(entered, 0), coalesce(seated, 0) FROM session 
            "ORDER BY day, start, code")
 ENTERED = "SELECT session, printf('%07d', number) FROM entry JOIN paper ON code = paper WHERE live = 1"
 UNSEATED = f"{ENTERED} EXCEPT SELECT session, printf('%07d', number) FROM seat"  # who is, and has no seat there
+AT_ONCE = f"{ENTERED} GROUP BY session, number HAVING count(*) > 1"  # who has two live entries in a session
 WITHOUT_DESK = ("without a desk",) * 2
 OVER, OPENED, CLASHES, TWICE, HALLS, PRINTED, CODES = ("over", "opened", "clashes", "twice", "halls", "printed",
                                                        "codes")

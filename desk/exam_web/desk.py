@@ -27,7 +27,6 @@ from exam_desk.office import Office, Trouble
 from exam_desk.reading import Reading
 from exam_web.wording import refused, text
 
-AT_ONCE = f"{effects.ENTERED} GROUP BY session, number HAVING count(*) > 1"  # who has two live entries in a session
 Found = TypeVar("Found")
 Given = ParamSpec("Given")
 Form = MultiDict[str, str]
@@ -90,7 +89,7 @@ class Sums(NamedTuple):
 @once
 def sums(view: View) -> dict[str, Sums]:
     """All sessions by code, in the order of their days."""
-    people, clashing = effects.figures(view.reading), Counter(code for code, _ in sittings(view, AT_ONCE))
+    people, clashing = effects.figures(view.reading), Counter(code for code, _ in sittings(view, effects.AT_ONCE))
     desks = facts.desks(view.reading.rows)
     waiting = dict(view.rows("SELECT session, count(*) FROM appeal WHERE state = 1 GROUP BY session"))
     return {code: Sums(code, day, start, *people[code], desks.get(code, 0), clashing[code],
@@ -99,7 +98,7 @@ def sums(view: View) -> dict[str, Sums]:
 
 @once
 def sittings(view: View, query: str) -> set[tuple[str, str]]:
-    """What AT_ONCE, or UNSEATED of `effects`, finds: of each the session and the number."""
+    """What AT_ONCE or UNSEATED of `effects` finds: of each the session and the number."""
     return {(code, number) for code, number in view.rows(query)}
 
 

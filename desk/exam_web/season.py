@@ -8,10 +8,10 @@ from flask import Blueprint, render_template, request
 from werkzeug.wrappers import Response
 
 from exam_desk import appeals, changing, logbook, notebook, on_paper, refusals, turns
-from exam_desk.effects import UNSEATED
+from exam_desk.effects import AT_ONCE, UNSEATED
 from exam_desk.telling import people_and_sittings
 from exam_desk.office import Trouble
-from exam_web.desk import AT_ONCE, Sums, at_one_time, desk, lead, office, sittings, sums, view
+from exam_web.desk import Sums, at_one_time, desk, lead, office, sittings, sums, view
 from exam_web.proposals import copy_key
 from exam_web.wording import days_until, text
 

@@ -7,6 +7,7 @@ import collections
 import contextlib
 import csv
 import datetime
+import html
 import http.client
 import io
 import json
@@ -21,7 +22,7 @@ import sample
 from cells import Cells
 from moments import at_one_time, of_candidate
 
-from exam_desk import overlaps, reasons, telling  # beside the tests' folder
+from exam_desk import notebook, overlaps, reasons, telling  # beside the tests' folder
 from exam_desk.facts import session_row
 from exam_desk.lists import fold, name_order
 from exam_desk.office import Office
@@ -204,11 +205,13 @@ class RandomOffice:
                     extra = [f"{seat['extra']} % extra time"] if seat["extra"] else []
                     self.arrangements[number, seat["session"]] = ", ".join(extra + needs)
         self.now = {session: self.seats(self.path, session) for session in self.sessions}
+        for hall in self.halls:
+            notebook.keep_rows(self.office, hall, notebook.Rows(self.chance.randint(1, 5), self.chance.choice(notebook.RUNNING)))
         with Reading(self.office) as reading, Reading(self.office, os.path.join(self.before, "office.db")) as before:
             papers, halls = telling.titles_of(reading)
             self.titles = papers | halls  # no hall has the code of a paper here
             for session in self.sessions:
-                for look in (self.doors, self.by_name, self.counts, self.session_page, self.printed, self.reasons):
+                for look in (self.doors, self.by_name, self.cards, self.charts, self.counts, self.session_page, self.printed, self.reasons):
                     look(reading, session)
             self.slips(reading)
             self.summary(reading)
@@ -277,6 +280,31 @@ class RandomOffice:
         sheets = (page := papers.page(reading, "poster", session)).split("<div class=sheet>")[1:]
         equal([Cells(sheet).tables[1][1:] for sheet in sheets], posters, "poster", page)
         self.compared["namesakes"] += sum(names[fold(seat.name)] > 1 for _, seat in seats)
+
+    def by_desk(self, session):
+        """Of each hall in which somebody sits the numbers and seats there, by desk."""
+        found = collections.defaultdict(list)
+        for number, seat in sorted(self.now[session].items(), key=lambda each: (each[1].hall, each[1].desk.zfill(4))):
+            if seat.hall != "-":
+                found[seat.hall].append((number, seat))
+        return found
+
+    def cards(self, reading, session):
+        page, head = papers.page(reading, "cards", session), session_row(reading.rows, session)
+        day, start = datetime.date.fromisoformat(head["day"]), f"{head['start'] // 60:02}:{head['start'] % 60:02}"
+        shown = [[html.unescape(re.sub("<.*?>", "", part)) for _, part in re.findall(r"<(b|h2|p)>(.*?)</\1>", card, re.S)]
+                 for card in re.findall("<div class=card>(.*?)</div>", page, re.S)]
+        wanted = [[seat.desk, plain(seat.name), number, self.titled(seat.paper),
+                   f"{day:%a} {day.day} {day:%B} {day.year}, {start}, {plain(self.titles[hall])}"]
+                  for hall, there in self.by_desk(session).items() for number, seat in there]
+        equal(shown, wanted, "cards", page)
+
+    def charts(self, reading, session):
+        tables = Cells(page := papers.page(reading, "chart", session)).tables
+        shown = [sorted(cell for row in table[1:] for cell in row if cell and not cell.endswith(" free")) for table in tables]
+        wanted = [sorted(f"{seat.desk}{plain(seat.name)} {number} {seat.paper}" for number, seat in there)
+                  for there in self.by_desk(session).values()]
+        equal(shown, wanted, "chart", page)
 
     def counts(self, reading, session):
         copies, total = collections.Counter(), collections.Counter()

@@ -13,6 +13,8 @@ from desk_client import MARK, STATE, DeskSchool, effects
 from random_offices import RandomOffice
 
 OF_A_SCHOOL = 25
+FIGURES = re.compile(r"(\d+) members? (\d+) seated (\d+) without a desk (\d+) free of (\d+) desks? (\d+) with two papers "
+                     r"(\d+) open appeals?")
 
 
 class Files(RandomOffice):
@@ -36,13 +38,27 @@ class TestWalk(DeskSchool):
         if "WALK" in os.environ:
             print(f"{done} changes at random")
 
-    def begin_school(self, seed):
+    def test_figures_by_rows_are_those_of_the_programs_answers(self):
+        """Behind withdrawals, grants and a hall that is closed: a page of a session counts rows, `summary` asks."""
+        looked = []
+        for seed in range(3, 6):
+            self.begin_school(seed, RandomOffice)
+            for line in self.office("summary").splitlines()[1:]:
+                if not line.startswith("NOTE"):
+                    code, _, _, members, seated, short, desks, free, clashes, _, waiting = line.split()
+                    shown = FIGURES.search(self.browser.words(f"/sessions/{code}"))
+                    self.assertEqual([*shown.groups()], [members, seated, short, free, desks, clashes, waiting])
+                    looked.append((members, clashes))
+        self.assertTrue(any(clashes != "0" for _, clashes in looked), looked)
+        self.assertTrue(self.rows("SELECT 1 FROM entry WHERE live <> 1"))
+
+    def begin_school(self, seed, kind=Files):
         self.end()
         for name in os.listdir(self.folder):
             if name != "program":
                 path = os.path.join(self.folder, name)
                 (shutil.rmtree if os.path.isdir(path) else os.remove)(path)
-        Files(self.folder, seed).make()
+        kind(self.folder, seed).make()
         self.start()
         return random.Random(seed)
 
