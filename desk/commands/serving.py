@@ -63,12 +63,12 @@ Serves candidates day after day, and steps aside for each change of the office: 
 Another user of the machine can take a port while `keep` is away. A folder that is yours and holds nothing else is safe:
 its group may use the socket, so give it the group of nginx. At each new day `keep` keeps a copy of the office, and
 serves with the new date; where `serve` fails or hangs it begins anew. Each request waits up to 30 seconds for its
-answer meanwhile. It writes to keep.log in desk-office.db, beside the copies of days.
+answer meanwhile. In the background it writes to keep.log in desk-office.db, where the copies of days are.
 """)
 def keep(parser: command.Parser) -> bool:
     from exam_desk import beside, copies, keeping, turns
     parser.add_argument("what", choices=["start", "run", "stop", "status"])
-    parser.add_argument("place", nargs="?", default=PORT, help="a port, or a folder for the socket")
+    parser.add_argument("place", metavar="PLACE", nargs="?", default=PORT, help="a port, or a folder for the socket")
     parser.add_argument("--days", type=int, default=copies.MOST_DAYS,
                         help=f"how many copies of days are kept ({copies.MOST_DAYS})")
     given = parser.parse_args()
