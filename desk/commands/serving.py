@@ -53,7 +53,7 @@ def desk(parser: command.Parser) -> None:
 
 
 @command.named("""\
-Serves candidates day after day, and steps aside for each change of the office: keep start|run|stop|status [PLACE].
+Serves candidates day after day, and steps aside for each change of the office: keep start|run|stop|status [PLACE]
 
     office keep start 8080     serves on 127.0.0.1, port 8080 (without PLACE: 8080), in the background, for a trial
     office keep status         says whether it serves, and where
