@@ -164,7 +164,7 @@ RUNNING is across, across-and-back, down or down-and-up, seen from the front of 
 """)
 def rows(parser: command.Parser) -> None:
     from exam_desk import effects, facts, notebook
-    given = command.given(parser, "hall?", "across?", "running?")
+    given = command.given(parser, "hall?", "across?: desks in a row", "running?")
     office = command.office()
     with command.rows() as connection:
         titles = facts.hall_titles(connection)

@@ -7,7 +7,7 @@ import command
 from exam_desk.office import Trouble
 
 
-@command.named("""Lists the copies from before each change, or puts one back: back [NUMBER [--yes]].
+@command.named("""Lists the copies from before each change, or puts one back: back [NUMBER [--yes]]
 
     office back            the copies, the last one first: number, when, before which command
     office back 1          takes back the last change, after a question
@@ -58,7 +58,7 @@ def open_hall(parser: command.Parser) -> command.Plan:
 
 
 @command.named("""\
-Lodges an appeal at the counter, for a candidate who is there: lodge NUMBER SESSION KIND VALUE .. REASON.
+Lodges an appeal at the counter, for a candidate who is there: lodge NUMBER SESSION KIND VALUE .. REASON
 
     office lodge 0001051 MON-AM hall PC1 'a draught'               not in this hall
     office lodge 0001051 MON-AM clash LAT 'needs Latin'            sit this paper of two at the same time
@@ -128,8 +128,9 @@ def second_sitting(parser: command.Parser) -> command.Plan:
     office what-if take school.xlsx
     office what-if back 1         also which appeals and decisions it would take away
 
-It carries out each command that changes seats on a private copy, asks nothing, and prints what came of it; then who
-would lose a desk or move, at most 20 of each, and how many get one, join or leave. The status is that of the command.
+It carries out each change of an office but `lodge` on a private copy, asks nothing, and prints what came of it; then
+who would lose a desk or move, at most 20 of each, and how many get one, join or leave. The status is that of the
+command.
 """)
 def what_if(parser: command.Parser) -> int:
     from commands import programs
@@ -141,7 +142,7 @@ def what_if(parser: command.Parser) -> int:
         return programs.run(command.office(), words)
     plan = own[name].run(command.parser_of(name, words[1:])) if name in own else programs.of_program(values)
     if not isinstance(plan, programs.Change):
-        why = f"`office {name}` {'alone ' * (name in own)}changes no seat; " if name else ""
-        raise Trouble(f"{why}name a command that does: {', '.join(sorted([*own, *programs.CHANGES]))}")
+        why = f"`office {name}` {'alone ' * (name in own)}cannot be tried; " if name else ""
+        raise Trouble(f"{why}name one of {', '.join(sorted([*own, *programs.CHANGES]))}")
     with programs.rehearsed(plan) as (status, _):
         return status

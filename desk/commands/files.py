@@ -102,7 +102,7 @@ def backup(parser: command.Parser) -> None:
     command.say(f"{plain(path)}: {os.path.getsize(path)} bytes\n")
 
 
-@command.named("""Looks through the import files of a folder before any import: check-files FOLDER.
+@command.named("""Looks through the import files of a folder before any import: check-files FOLDER
 
     office check-files .
 

@@ -202,7 +202,7 @@ def look(parser: command.Parser) -> None:
 
 
 @command.named("""\
-Writes the titles of papers and halls and the days of sessions, for the candidates' page: titles [FILE].
+Writes the titles of papers and halls and the days of sessions, for the candidates' page: titles [FILE]
 
     office titles /var/www/examoffice/titles.json     puts them where the web server finds them, as one step
 
@@ -221,7 +221,7 @@ def titles(parser: command.Parser) -> None:
     titles.keep(command.office(), given.file)
 
 
-@command.named("""Says why candidates have no desk, hall by hall, and what could help: why SESSION [NUMBER].
+@command.named("""Says why candidates have no desk, hall by hall, and what could help: why SESSION [NUMBER]
 
     office why MON-AM             everybody without a desk: what they need, until when, and of each open hall why not
     office why MON-AM 0001272     one candidate, who may have a desk

@@ -177,7 +177,7 @@ def rehearsed(change: Change) -> Iterator[tuple[int, Rehearsal]]:
         if change.copy or done - {MIGRATE}:
             with command.reading(rehearsal.before) as before, command.reading(rehearsal.after) as after:
                 command.say_lines([*map(str, change.own(before, after) if change.own else []),
-                                   *effects.between(before, after, change.most)])
+                                   *effects.between(before, after, change.most)], is_private=True)
         yield status, rehearsal
 
 
@@ -215,6 +215,8 @@ def dispatch(office: Office, words: list[str]) -> Ran:
         return check(office)
     if words[0] not in running.SHEETS:
         return running.run_over(office, office.path, *words)
+    if words[0] == "appeals":
+        command.say_private("")  # its sheet has needs
     with contextlib.ExitStack() as stack:
         path = office.path
         with contextlib.suppress(OSError):  # such as beside a file that is not there: the program says what is wrong

@@ -53,7 +53,7 @@ def desk(parser: command.Parser) -> None:
 
 
 @command.named("""\
-Serves candidates day after day, and steps aside for each change of the office: keep start|run|stop|status [PLACE].
+Serves candidates day after day, and steps aside for each change of the office: keep start|run|stop|status [PLACE]
 
     office keep start 8080     serves on 127.0.0.1, port 8080 (without PLACE: 8080), in the background, for a trial
     office keep status         says whether it serves, and where
@@ -63,12 +63,12 @@ Serves candidates day after day, and steps aside for each change of the office: 
 Another user of the machine can take a port while `keep` is away. A folder that is yours and holds nothing else is safe:
 its group may use the socket, so give it the group of nginx. At each new day `keep` keeps a copy of the office, and
 serves with the new date; where `serve` fails or hangs it begins anew. Each request waits up to 30 seconds for its
-answer meanwhile. It writes to keep.log in desk-office.db, beside the copies of days.
+answer meanwhile. In the background it writes to keep.log in desk-office.db, where the copies of days are.
 """)
 def keep(parser: command.Parser) -> bool:
     from exam_desk import beside, copies, keeping, turns
     parser.add_argument("what", choices=["start", "run", "stop", "status"])
-    parser.add_argument("place", nargs="?", default=PORT, help="a port, or a folder for the socket")
+    parser.add_argument("place", metavar="PLACE", nargs="?", default=PORT, help="a port, or a folder for the socket")
     parser.add_argument("--days", type=int, default=copies.MOST_DAYS,
                         help=f"how many copies of days are kept ({copies.MOST_DAYS})")
     given = parser.parse_args()

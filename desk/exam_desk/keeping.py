@@ -237,8 +237,7 @@ def start(office: Office, line: Sequence[str]) -> tuple[bool, str]:
 
 def stop(office: Office) -> None:
     """Ends `keep`, and waits until it has ended. Raises `Trouble` where none runs, or where it does not end."""
-    state = turns.keep_state(office)
-    if state is None:
+    if (state := turns.keep_state(office)) is None:
         raise Trouble("`keep` does not run")
     turns.signal_keep(state, signal.SIGTERM)
     until = time.monotonic() + STOP_SECONDS
@@ -251,8 +250,7 @@ def stop(office: Office) -> None:
 def status(office: Office) -> tuple[bool, str]:
     """Whether `keep` serves, which it does only where `serve` answers through it in time; and what is to be said of it.
     Raises `Trouble`, with the last line of its journal, where none runs."""
-    state = turns.keep_state(office)
-    if state is None:
+    if (state := turns.keep_state(office)) is None:
         lines = beside.text_of(office.path, JOURNAL).splitlines()
         said = (f"the last line of {beside.folder(office.path, JOURNAL)}: {plain(lines[-1]).removeprefix('office: ')}"
                 if lines else "`office keep start` begins it, or as root `systemctl start examoffice` the service")

@@ -148,7 +148,8 @@ class Words(sample.SampleSchool):
         for words, mode, folder, is_said in (
                 *(([*words], 0o604, 0o755, True) for words in (  # with needs, notes or reasons
                     ["printed", "MON-AM", "--look"], ["changes", self.path], ["why", "MON-AM"], ["notes"], ["appeals-open"],
-                    ["session-page", "MON-AM"], ["slips", "--only", "1051"])),
+                    ["session-page", "MON-AM"], ["slips", "--only", "1051"], ["appeals", "MON-AM"],
+                    ["what-if", "close-hall", "MON-AM", "LIB"])),
                 (["slips", "--codes"], 0o644, 0o755, True), (["doors", "MON-AM"], 0o640, 0o755, True),
                 (["look", "1051"], 0o600, 0o755, False), (["look", "1051"], 0o644, 0o700, False), (["look", "1051"], 0o640, 0o710, True),
                 (["look", "1051"], 0o604, 0o755, True), (["poster", "MON-AM"], 0o644, 0o755, False)):

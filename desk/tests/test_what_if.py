@@ -44,7 +44,7 @@ class WhatIf(test_changing.Changing):
     def test_back_of_a_bad_copy_and_of_none(self):
         self.office("withdraw", "0001000", "MA-1")
         self.assertIn("there is no copy 2", self.refused("what-if", "back", "2"))
-        self.assertIn("`office back` alone changes no seat; ", self.refused("what-if", "back"))
+        self.assertIn("`office back` alone cannot be tried; ", self.refused("what-if", "back"))
         done = self.run_office("what-if", "back", "x")
         self.assertEqual((done.returncode, done.stdout), (2, ""))
         self.assertIn("argument NUMBER: invalid int value: 'x'", done.stderr)
@@ -128,12 +128,12 @@ class WhatIf(test_changing.Changing):
 
     def test_what_changes_nothing_is_refused_and_not_done(self):
         for word in ("summary", "keep", "init", "what-if", "nothing", "lodge", "absent", "notes", "printed", "rows", "school"):
-            self.assertIn(f"`office {word}` changes no seat; name a command that does: back, close-hall, codes, decide, import, "
+            self.assertIn(f"`office {word}` cannot be tried; name one of back, close-hall, codes, decide, import, "
                           "migrate, name, open-hall, reinstate, second-sitting, take, withdraw\n",
                           self.refused("what-if", word, "x"))
         self.assertIn("there is no office here; go to its folder, ",
                       self.refused("what-if", "withdraw", "1000", "MA-1", OFFICE=self.path + ".none"))
-        self.assertRegex(self.refused("what-if"), r"\Aoffice: name a command that does: back, .*, withdraw\n\Z")
+        self.assertRegex(self.refused("what-if"), r"\Aoffice: name one of back, .*, withdraw\n\Z")
         self.assertEqual(self.run_office("what-if", "take").returncode, 2)
         self.assertIn("office name", self.office("what-if", "name", "--help"))
         self.assertEqual(self.office("what-if", "withdraw", "--help"), self.office("withdraw", "--help"))
