@@ -27,7 +27,8 @@ addEventListener("submit", (event) => {
     event.preventDefault();
     return;
   }
-  form.dataset.sent = "1";
+  form.dataset.sent = form.dataset.typed ?? "nothing";
+  delete form.dataset.typed;
   for (const each of form.querySelectorAll("button")) each.setAttribute("aria-disabled", "true");
   if (button && form.dataset.busy) {
     button.dataset.was = button.textContent;
@@ -42,7 +43,24 @@ function ready() {
     if (each.dataset.was) each.textContent = each.dataset.was;
   }
 }
-addEventListener("pageshow", (event) => { if (event.persisted) ready(); });
+window.navigation?.addEventListener("navigateerror", ready);  // the page was stopped: the form can be sent again
+
+// what was typed or ticked, and is not sent, is not left by mistake; a tick that a form requires is no loss
+addEventListener("input", (event) => {
+  const form = event.target.form, isLoss = !event.target.matches("select, [type=file], [type=checkbox][required]");
+  if (isLoss && form?.method === "post" && form.target !== "_blank") form.dataset.typed = "typed";
+});
+const has = (forms) => document.querySelector(forms) !== null;
+addEventListener("beforeunload", (event) => { if (has("[data-typed]")) event.preventDefault(); });
+
+// a page that comes back as it was left stays so for what is typed in it, until that is done; else it is loaded anew
+if (has(".tag.done, .said.good")) sessionStorage.done = Date.now();
+addEventListener("pageshow", (event) => {
+  if (!event.persisted) return;
+  const isDone = sessionStorage.done > performance.timeOrigin;
+  if (has("[data-typed]") || has("[data-sent=typed]") && !isDone) ready();
+  else location.reload();
+});
 
 // a piece of a page that is made when it is asked for: a hall, what a grant would come to
 const lines = (piece) => [...piece.querySelectorAll("li")].map((each) => each.textContent);
@@ -100,27 +118,32 @@ function tables(found) {  // a folder has other files, too
   const some = found.filter((file) => wanted.test(file.name));
   return some.length ? some : found.slice(0, 10);
 }
+let brought = 0;
 async function send(drop, found) {
-  const form = new FormData(drop);
+  const form = new FormData(drop), line = drop.querySelector(".big"), mine = ++brought;
   form.delete("files");
   for (const file of found) form.append("files", file, file.name);
-  const line = drop.querySelector(".big");
   line.setAttribute("role", "status");  // first, so that what it says is announced
-  line.textContent = drop.dataset.working;
+  line.textContent = isTooLarge(drop, found) ? drop.dataset.large : drop.dataset.working;
+  if (isTooLarge(drop, found)) return;
   try {
     const answer = await fetch(drop.action, {method: "POST", body: form, credentials: "same-origin"});
+    if (mine !== brought) return;  // others came meanwhile; the page of these stands among what is uploaded
     if (answer.redirected) {
       location.href = answer.url;
       return;
     }
-    const page = new DOMParser().parseFromString(await answer.text(), "text/html");
+    const page = new DOMParser().parseFromString(await answer.text(), "text/html"), main = page.getElementById("main");
+    if (!main) throw new Error(answer.status);
     document.title = page.title;
-    document.querySelector("main").replaceChildren(...page.querySelector("main").children);
-    takeFiles();
+    document.querySelector("main").replaceChildren(...main.children);
     toWhatIsSaid();
-  } catch {
-    line.textContent = drop.dataset.nothing;
+  } catch (fault) {
+    line.textContent = fault.message === "401" ? drop.dataset.ended : drop.dataset.nothing;
   }
+}
+function isTooLarge(field, found) {
+  return found.reduce((sum, file) => sum + file.size, 0) > field.dataset.most;
 }
 async function read(entry) {
   if (entry.isFile) return [await new Promise((done, fail) => entry.file(done, fail))];
@@ -131,27 +154,30 @@ async function read(entry) {
     found.push(...some.filter((each) => each.isFile));
   }
 }
-function takeFiles() {
+addEventListener("change", (event) => {
+  const input = event.target, drop = input.closest("#drop"), found = [...input.files ?? []];
+  if (input.dataset.large) input.setCustomValidity(isTooLarge(input, found) ? input.dataset.large : "");
+  if (!drop || !found.length) return;
+  input.value = "";  // so that a file which nothing was taken of can be chosen again
+  send(drop, input.webkitdirectory ? tables(found) : found);
+});
+// a file is taken wherever it falls on the page: beside the place the browser would show it, and leave the page
+function place(event) {
   const drop = document.getElementById("drop");
-  if (!drop) return;
-  for (const input of drop.querySelectorAll("[type=file]")) {
-    input.addEventListener("change", () => {
-      const found = [...input.files];
-      input.value = "";  // so that a file which nothing was taken of can be chosen again
-      if (found.length) send(drop, input.webkitdirectory ? tables(found) : found);
-    });
-  }
-  drop.addEventListener("dragover", (event) => { event.preventDefault(); drop.classList.add("over"); });
-  drop.addEventListener("dragleave", () => drop.classList.remove("over"));
-  drop.addEventListener("drop", async (event) => {
-    event.preventDefault();
-    drop.classList.remove("over");
-    const entries = [...event.dataTransfer.items].map((item) => item.webkitGetAsEntry()).filter(Boolean);
-    const found = await Promise.all(entries.map(async (each) => each.isFile ? read(each) : tables(await read(each))));
-    send(drop, found.flat());
-  });
+  if (!drop || !event.dataTransfer.types.includes("Files")) return null;
+  event.preventDefault();
+  drop.classList.toggle("over", event.type === "dragover");
+  return drop;
 }
-takeFiles();
+addEventListener("dragover", place);
+addEventListener("dragleave", place);
+addEventListener("drop", async (event) => {
+  const drop = place(event);
+  if (!drop) return;
+  const entries = [...event.dataTransfer.items].map((item) => item.webkitGetAsEntry()).filter(Boolean);
+  const found = await Promise.all(entries.map(async (each) => each.isFile ? read(each) : tables(await read(each))));
+  send(drop, found.flat());
+});
 
 // each hall has a list of its own to tick who is absent: one is sent with all; who stands in two is ticked in both
 addEventListener("change", (event) => {
@@ -163,5 +189,6 @@ addEventListener("formdata", (event) => {
   for (const box of document.querySelectorAll("input[name=absent]")) {
     const isOther = box.form !== event.target && box.checked !== box.defaultChecked;
     if (isOther) event.formData.append(box.checked ? "absent" : "was", box.value);
+    delete box.form.dataset.typed;  // its ticks are sent, too
   }
 });

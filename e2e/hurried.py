@@ -1,0 +1,96 @@
+"""What hurried people do at the desk in Chromium, for look-at-desk: they stop a page, leave it, go back, bring too much."""
+import os
+
+FORM, BIG = "document.querySelector('#arrangement button')", "document.querySelector('#drop .big').textContent"
+
+
+def hurry(page, base, folder, faults):
+    """Each step takes a fraction of a second. The last one ends the visit."""
+    stop(page, base, faults)
+    go_back(page, base, faults)
+    leave(page, base, faults)
+    bring_too_much(page, base, folder, faults)
+
+
+def stop(page, base, faults):
+    page.go(f"{base}/candidates/1051")
+    page.call("Network.emulateNetworkConditions", offline=False, latency=500, downloadThroughput=-1, uploadThroughput=-1)
+    page.js(f"{FORM}.click(); new Promise((done) => setTimeout(done, 100))")
+    page.call("Page.stopLoading")
+    page.call("Network.emulateNetworkConditions", offline=False, latency=0, downloadThroughput=-1, uploadThroughput=-1)
+    faults.expect(page.until(f"{FORM}.textContent + !{FORM}.ariaDisabled") == "See what would changetrue",
+                  "a form that was stopped still works")
+
+
+def go_back(page, base, faults):
+    """After a rehearsal the form is as it was left; once that is done, the page says what is so."""
+    page.js("document.querySelector('#arrangement [name=extra]').select()")
+    page.keys("7")
+    page.js(f"{FORM}.click()")
+    page.until("location.pathname.includes('/proposals/') && !!document.querySelector('.confirm .primary')")
+    page.js("history.back()")
+    page.until("location.pathname.endsWith('/1051') && document.readyState === 'complete'")
+    faults.expect(page.js("document.querySelector('#arrangement [name=extra]').value") == "7", "the form is not as it was left")
+    page.js("history.forward()")
+    page.until("location.pathname.includes('/proposals/') && document.readyState === 'complete' && "
+               "performance.getEntriesByType('navigation')[0].type !== 'navigate'")  # it comes as it was, and is loaded anew
+    page.js("document.querySelector('.confirm .primary').click()")
+    page.until("!!document.querySelector('.tag.done')")
+    page.js("history.go(-2)")
+    page.until("location.pathname.endsWith('/1051') && document.readyState === 'complete'")
+    page.until("document.querySelector('.figures').textContent.includes('7 % extra time')")
+
+
+def leave(page, base, faults):
+    """What was typed and is not sent is asked for; what was sent is not, nor a search."""
+    asked = []
+
+    def stay(event):
+        if event["method"] == "Page.javascriptDialogOpening":
+            asked.append(page.send("Page.handleJavaScriptDialog", accept=False))
+        return bool(asked) and event["method"].startswith("Page.javascriptDialog")
+    page.watch = stay
+    page.go(f"{base}/candidates/1051")
+    page.js("document.querySelector('[name=note]').focus()")
+    page.keys("rest")
+    page.js("document.querySelector('nav a').click()")
+    page.js("new Promise((done) => setTimeout(done, 200))")
+    faults.expect(asked and page.js("document.querySelector('[name=note]').value") == "rest", "a note that was typed is lost")
+    asked.clear()
+    page.js("document.querySelector('form[action$=note] button').click()")
+    page.until("document.title.startsWith('done')")
+    page.js("document.querySelector('#find').focus()")
+    page.keys("berg", "Enter")
+    page.until("location.search === '?q=berg' || location.pathname.endsWith('/1051') && !document.title.startsWith('done')")
+    faults.expect(not asked, "it asks where nothing would be lost")
+    page.watch = None
+
+
+def bring_too_much(page, base, folder, faults):
+    page.go(f"{base}/files")
+    path = os.path.join(folder, "large.csv")
+    with open(path, "wb") as file:
+        file.truncate(33 << 20)
+    give(page, [path])
+    faults.expect("larger than 32 MB" in page.until(BIG) and page.js("document.title").startswith("Files"),
+                  f"of a file that is too large it says {page.js(BIG)}")
+    page.js("fetch(document.querySelector('.leave').action, {method: 'POST', body: new URLSearchParams("
+            "new FormData(document.querySelector('.leave')))})")
+    os.truncate(path, 10)
+    give(page, [path])
+    page.until(f"{BIG}.includes('choose the files again')")
+    page.complaints()
+
+
+def look_back(page, faults):
+    """Who is noted as absent is ticked, whatever was ticked on the page from before."""
+    page.js("history.back()")
+    page.until("document.readyState === 'complete' && document.title.startsWith('MON-AM')")
+    ticked = page.js("[...document.querySelectorAll('#absent [name=absent]')].map((each) => each.checked).join()")
+    faults.expect(ticked == "true", f"of one who is noted as absent the boxes are {ticked} after Back")
+
+
+def give(page, files):
+    root = page.call("DOM.getDocument")["root"]["nodeId"]
+    node = page.call("DOM.querySelector", nodeId=root, selector="#files")["nodeId"]
+    page.call("DOM.setFileInputFiles", files=files, nodeId=node)
