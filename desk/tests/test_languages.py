@@ -147,12 +147,12 @@ class TestNoEnglish(DeskSchool):
         self.assertIn("Termin MON-AM-2 und Prüfung LAT-2 bleiben, ohne Prüflinge", said)
 
     def test_absences(self):
-        for numbers, wrong in (("", "nichts ist vermerkt: Es ist keine Nummer angegeben"),
+        for numbers, wrong in (("", "nichts ist vermerkt: Tragen Sie eine Nummer ein"),
                                ("9999999 8", "nichts ist vermerkt: 0000008, 9999999: kein Prüfling von MON-AM"),
                                ("x", "'x' ist keine Prüflingsnummer")):
             self.assertIn(wrong, self.page("/sessions/MON-AM/absent", numbers=numbers))
         self.page("/sessions/MON-AM/absent", numbers="1051")
-        self.assertIn("nichts ist vermerkt, denn diese sind abwesend: 0001051",
+        self.assertIn("nichts ist vermerkt, denn diese sind abwesend: 0001051; nehmen Sie",
                       self.page("/sessions/MON-AM/absent", nobody="1"))
         self.assertIn("TUE-AM ist am 2027-06-08: Vor diesem Tag", self.page("/sessions/TUE-AM/absent", numbers="1051"))
 
