@@ -22,6 +22,13 @@ with flask.Flask("x").test_request_context(headers={"Accept-Language": "de"}):
 FINDER = pathlib.Path(__file__).parent / "shown_texts.py"
 GERMAN = {"Accept-Language": "de-AT,de;q=0.9,en;q=0.5"}
 MARKED = r'<(\w+)\b[^>]* lang="en".*?</\1>|<code.*?</code>'  # what says that it is English, and the headers of files
+ONE_WORD = {  # what German calls a thing of the English texts, and nothing else
+    "appeal": "Antr[aä]g|gestellt", r"\bgrant": "ewillig", "[Aa]rrangement": "Nachteilsausgleich",
+    "[Ee]xtra time": "Zeitzuschlag", "[Ss]econd sitting": "Durchg[aä]ng", "[Aa]ccess code": "Zugangscode",
+    "desk number": "Platznummer", r"\bsession": "Termin", r"\bhall": "Raum|Räum", r"\bslip": "Zettel",
+    "[Bb]ackup": "Sicherung", "[Rr]ehears": "[Pp]rob", "invigilator": "Aufsicht", "entr(y|ies)": "[Mm]eld",
+    "candidates' page": "Seite für Prüflinge", "candidate's page": "Seite des Prüflings", "exam board": "Prüfungsamt",
+    "[Pp]rinted papers": "Unterlagen", "moves?d?\\b": "umgesetzt|umsetz|setzt niemanden|mit anderem Raum"}
 SAID = r' (?:title|placeholder|aria-label|data-busy|data-working|data-nothing)="([^"]*)"|>([^<]*)<'
 
 
@@ -45,6 +52,14 @@ class TestTexts(unittest.TestCase):
                 self.assertEqual(sorted(re.findall(r"{\w+}", english)), sorted(re.findall(r"{\w+}", other)), english)
                 self.assertNotRegex(other, "[<>&]")
 
+
+    def test_each_thing_has_one_word_in_German(self):
+        table = json.loads((DESK / "exam_web/languages/de.json").read_text("utf-8"))
+        for english, other in table.items():
+            self.assertNotRegex(other, r" {2}|\.{3}| [,;:!?]", english)
+            for thing, german in ONE_WORD.items():
+                if re.search(thing, re.sub("{.*?}", "", english)):
+                    self.assertRegex(other, german, english)
 
     def test_a_sentence_that_has_its_values_is_known_again(self):
         """A value of one word stays as it is, since somebody may have to write it: `no` is no "nein" there."""
@@ -147,12 +162,12 @@ class TestNoEnglish(DeskSchool):
         self.assertIn("Termin MON-AM-2 und Prüfung LAT-2 bleiben, ohne Prüflinge", said)
 
     def test_absences(self):
-        for numbers, wrong in (("", "nichts ist vermerkt: Es ist keine Nummer angegeben"),
+        for numbers, wrong in (("", "nichts ist vermerkt: Tragen Sie eine Nummer ein"),
                                ("9999999 8", "nichts ist vermerkt: 0000008, 9999999: kein Prüfling von MON-AM"),
                                ("x", "'x' ist keine Prüflingsnummer")):
             self.assertIn(wrong, self.page("/sessions/MON-AM/absent", numbers=numbers))
         self.page("/sessions/MON-AM/absent", numbers="1051")
-        self.assertIn("nichts ist vermerkt, denn diese sind abwesend: 0001051",
+        self.assertIn("nichts ist vermerkt, denn diese sind abwesend: 0001051; nehmen Sie",
                       self.page("/sessions/MON-AM/absent", nobody="1"))
         self.assertIn("TUE-AM ist am 2027-06-08: Vor diesem Tag", self.page("/sessions/TUE-AM/absent", numbers="1051"))
 
