@@ -112,7 +112,7 @@ class StandIns(sample.SampleSchool):
         self.assertEqual(pages.row("board"), [NAME, "LIB", "1"])
         self.assertEqual(pages.row("signatures"), ["1", NUMBER, NAME, "LAT", ""])
         self.assertEqual(pages.posted(), [("LIB", "1")])
-        self.assertEqual(pages.card(), ["1", NAME, NUMBER, "Latin (LAT)", "Mon 7 June 2027, 09:00, Library"])
+        self.assertEqual(pages.card(), ["1", NAME, NUMBER, "Latin (LAT)", "Mon 7 June 2027, 09:00, Library (LIB)"])
         self.assertEqual(pages.drawn(), [("LIB", f"1{NAME} {NUMBER} LAT")])
         self.assertEqual(pages.row("page"), ["1", NUMBER, NAME, "LAT", "10:53"])
         self.assertEqual(pages.line("door-list", "LIB"), f"   1 {NUMBER} LAT          {NAME}")
@@ -174,7 +174,7 @@ class StandIns(sample.SampleSchool):
         self.assertEqual(pages.row("board")[1], "R12")
         self.assertEqual(pages.posted(), [("R12", "1")])
         self.assertIn(NUMBER, papers_of(pages.signatures, "R12"))
-        self.assertEqual(pages.card()[4], "Mon 7 June 2027, 09:00, Room 12")
+        self.assertEqual(pages.card()[4], "Mon 7 June 2027, 09:00, Room 12 (R12)")
         self.assertNotIn("LIB", dict(pages.drawn()))  # in R12 somebody else has this desk, too
         self.assertIn(["Room 12 (R12)", "Latin (LAT)", "1", "10:53", "", ""], pages.count("Room 12 (R12)"))
         self.assertIn(NAME, pages.page[pages.page.index("id=hall-R12"):pages.page.index("id=clashes")])
