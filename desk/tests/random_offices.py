@@ -295,7 +295,7 @@ class RandomOffice:
         shown = [[html.unescape(re.sub("<.*?>", "", part)) for _, part in re.findall(r"<(b|h2|p)>(.*?)</\1>", card, re.S)]
                  for card in re.findall("<div class=card>(.*?)</div>", page, re.S)]
         wanted = [[seat.desk, plain(seat.name), number, self.titled(seat.paper),
-                   f"{day:%a} {day.day} {day:%B} {day.year}, {start}, {plain(self.titles[hall])}"]
+                   f"{day:%a} {day.day} {day:%B} {day.year}, {start}, {self.titled(hall)}"]
                   for hall, there in self.by_desk(session).items() for number, seat in there]
         equal(shown, wanted, "cards", page)
 
