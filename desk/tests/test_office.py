@@ -597,7 +597,8 @@ class Back(sample.SampleSchool):
             with subprocess.Popen(line, env=self.environment, stderr=subprocess.DEVNULL) as process:
                 sample.until(lambda: os.path.exists(os.path.join(self.desk, "log")))
                 process.kill()
-            file.rollback()
+            with turns.alone(self.value, ["test"]):  # the program that it began has ended, too
+                file.rollback()
         done = self.run_office("withdraw", "0001000", "MA-1")
         self.assertEqual((done.stdout, done.returncode), ("withdrawn\n", 0))
         self.assertRegex(done.stderr, "^office: `import entries .*/late.csv for 0001000 FR` of .* was broken off, "
