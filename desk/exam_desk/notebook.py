@@ -73,8 +73,7 @@ def school_name(office: Office, what: str = SCHOOL) -> str:
 
 
 def set_school_name(office: Office, name: str | None, page: str | None = None) -> None:
-    """Keeps the name, the address of the page, or both. Raises `Trouble`, and keeps nothing, where one of them has
-    another form than a title."""
+    """Keeps the name, the page's address, or both; nothing, and raises `Trouble`, where one has no form of a title."""
     given = {what: text for what, text in ((PAGE, page), (SCHOOL, name)) if text is not None}
     for what, text in given.items():
         if text and not files.is_name(text.encode("utf-8", "surrogateescape")):

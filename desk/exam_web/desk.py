@@ -175,7 +175,6 @@ class Wrong(Exception):
 
     def __init__(self, page: Page, **fields: object) -> None:
         """A form is called as what it proposes, or as the function that takes it."""
-        super().__init__()
         self.page = page
         name = (request.view_args or {}).get("what") or str(request.endpoint).rpartition(".")[2]
         self.asked = Asked(name, request.form, fields)
