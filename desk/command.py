@@ -70,7 +70,8 @@ def parser_of(name: str, words: Sequence[str]) -> Parser:
     sys.argv = [OFFICE, *words]  # where a parser looks for them
     parser = Plain(prog=f"office {name}", description=COMMANDS[name].text,
                    formatter_class=argparse.RawDescriptionHelpFormatter)
-    parser._negative_number_matcher = re.compile("-+[0-9A-Z][0-9A-Z-]*$")  # codes may begin so, and no option does
+    values = ["-+[0-9A-Z][0-9A-Z-]*", *(re.escape(word) for word in words[[*words, "--"].index("--"):])]
+    parser._negative_number_matcher = re.compile(f"({'|'.join(values)})$")  # codes may begin so, and all behind `--`
     return parser
 
 
@@ -184,8 +185,7 @@ def ask(question: str) -> None:
     """Raises `Trouble` unless the answer is yes."""
     say(f"{question} [y/N] ")
     answer = sys.stdin.readline()
-    if not answer.endswith("\n"):  # nobody pressed Enter
-        say("\n")
+    say("\n" * (not answer.endswith("\n")))  # nobody pressed Enter
     if answer.strip().lower() not in ("y", "yes"):
         raise Trouble("nothing is changed")
 

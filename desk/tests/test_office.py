@@ -136,6 +136,11 @@ class Words(sample.SampleSchool):
             self.assertEqual(self.office("decide", "1051", said.split()[1], "refused", reason, stdin=stdin),
                              "decided refused hall PC1 moved 0\n")
         self.assertEqual(self.office("look", "1051").count("    reason: -x\n    answer: -5 marks\n"), 2)
+        for words, said in ((["name", "--", "1051", "-x"], "added 0 changed 1 same 0\n"),
+                            (["look", "--codes", "--", "-x"], "0001051 -x, access code "),
+                            (["what-if", "name", "--", "1051", "-y"], "added 0 changed 1 same 0\n1 has another name\n"),
+                            (["school", "--page", "x", "--", "-x"], "-x\nx\n"), (["why", "MON-AM", "--", "1051"], "0001051 -x ")):
+            self.assertTrue(self.office(*words).startswith(said), words)
         text = pathlib.Path(self.desk, "log").read_text("utf-8")
         self.assertIn("\timport papers -p.csv for -A\t0\t", text)
         self.assertNotIn("marks", text)

@@ -77,8 +77,8 @@ class Table:
         if self.paper:
             self.note(None, None, f"bears the name of a paper: whom it lists is entered for {self.paper}")
         elif self.kind == "entries" and self.job.way.is_command and is_called_list(self.sheet.name):
-            self.mistake(None, None, "is called a list of entries to be withdrawn or reinstated: save it as CSV for "
-                         "`office withdraw --list FILE.csv`, or call it Entries if they are to be entered")
+            self.mistake(None, None, "is called a list of entries to be withdrawn or reinstated: save it as CSV with "
+                         "commas for `office withdraw --list FILE.csv`, or call it Entries if they are to be entered")
         if min(self.sheet.rows) < row:
             self.note(row, None, "is taken as the header; what stands above it is not read")
         if marks:
