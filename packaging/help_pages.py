@@ -99,8 +99,12 @@ def choices(said):
 
 
 def completion(commands, desk):
-    """What bash offers for `examoffice` and `office`: commands, the words of an argument, files."""
+    """What bash offers for `examoffice` and `office`: commands, the words of an argument, files. `desk` as `office_page`
+    has it."""
     cases = ""
+    for name, said in desk.items():
+        if found := re.search(r"^positional arguments:\n  {([a-z,]+)}$", said, re.M):
+            cases += f"        {name}:1) COMPREPLY=($(compgen -W '{found[1].replace(',', ' ')}' -- \"$word\")) ;;\n"
     for name, command in commands.items():
         for place, (label, said) in enumerate(command.sections.get("Arguments", []), 1):
             if offered := choices(said):

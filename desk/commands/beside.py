@@ -129,8 +129,7 @@ def printed(parser: command.Parser) -> None:
 def compared(reading: Reading, session: str) -> list[str]:
     """Who is not as on paper, and which papers are out of date, of which halls."""
     from exam_desk import on_paper
-    found = on_paper.compared(reading, session)
-    if found is None:
+    if (found := on_paper.compared(reading, session)) is None:
         raise Trouble(f"nobody noted which desks are printed for {session}; `office printed {session}` does")
     if found.holds():
         return ["the papers are up to date"]

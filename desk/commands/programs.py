@@ -313,8 +313,7 @@ def said(answered: Answered) -> int:
 
 def usage(name: str, *words: str) -> list[str]:
     """What is wrong with words that the program does not understand, and how its command is given."""
-    text = running.help_text(command.office(), name)
-    if not text:
+    if not (text := running.help_text(command.office(), name)):
         gone = [f"  {name} is gone: {GONE[name]}"] if name in GONE else []
         return [*gone, "  `office --help` lists the commands"]
     wrong = typed.wrong(running.takes(text), words)

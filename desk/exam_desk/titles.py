@@ -10,7 +10,7 @@ from exam_desk.snapshot import Rows
 from exam_desk.words import clock
 
 KINDS = ("sessions", "papers", "halls")  # in the file; of its rows
-PLACE = "titles"  # beside the office: the path of the file
+PLACE = "titles"  # beside the office: the paths of the file and, behind a NUL, of the office, which a copy has too
 
 
 def text(rows: Rows) -> str:
@@ -43,17 +43,19 @@ def put(path: str, content: str) -> None:
 
 
 def keep(office: Office, path: str) -> None:
-    """From now on the file at this path is written again after each change."""
+    """From now on the file at this path is written again after each change of this office, of no copy of its folder."""
     with open(beside.open_file(office.path, PLACE, flags=os.O_WRONLY | os.O_CREAT | os.O_TRUNC), "wb") as file:
-        file.write(os.fsencode(os.path.abspath(path)))
+        file.write(os.fsencode(f"{os.path.abspath(path)}\0{os.path.realpath(office.path)}"))
 
 
 def renew(office: Office) -> None:
     """Writes the file again, if one is kept and is there. Where it cannot be written, a warning has to do."""
     try:
         with open(beside.open_file(office.path, PLACE, flags=os.O_RDONLY), "rb") as file:
-            path = os.fsdecode(file.read())
+            path, _, place = os.fsdecode(file.read()).partition("\0")
         if os.path.exists(path):
+            if place not in ("", os.path.realpath(office.path)):
+                raise Trouble(f"it is of the office {place}: if that has moved here, give `office titles {path}`")
             with snapshot.rows(office) as rows:
                 put(path, text(rows))
     except FileNotFoundError:

@@ -203,6 +203,23 @@ class Titles(SampleSchool):
         self.assertNotIn("NOTE", change("import", "halls", halls).stderr)
         self.assertFalse(os.path.exists(path))
 
+    def test_a_copy_of_the_folder_leaves_the_page_to_the_office_that_has_it(self):
+        """Whoever tries a change in a copy changes nothing that candidates see; an office that has moved says so."""
+        path = pathlib.Path(self.folder.name, "titles.json")
+        self.titles(str(path))
+        before = path.read_bytes()
+        with tempfile.TemporaryDirectory() as folder:
+            shutil.copytree(self.folder.name, folder, dirs_exist_ok=True)
+            pathlib.Path(folder, "halls.csv").write_text("hall,title,features\nGYM,Annex,step-free\n", "utf-8")
+            self.environment["OFFICE"] = os.path.join(folder, "office.db")
+            done = subprocess.run([OFFICE, "import", "halls", f"{folder}/halls.csv"], env=self.environment, capture_output=True,
+                                  text=True, check=True)
+            self.assertIn(f"NOTE the candidates' page still has the titles from before: it is of the office {self.office}: "
+                          f"if that has moved here, give `office titles {path}`\n", done.stderr)
+            self.assertEqual(path.read_bytes(), before)
+            self.titles(str(path))
+            self.assertIn(b"Annex", path.read_bytes())
+
     def test_only_a_file_of_titles_is_written_over(self):
         """A slip would cost the office, its log, or somebody else's file; nobody waits for what comes out of a pipe."""
         before = self.kept()

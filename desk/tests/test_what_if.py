@@ -155,8 +155,8 @@ class WhatIf(test_changing.Changing):
     def test_refusals(self):
         self.assertIn("refused 9\n  the entry is withdrawn already",
                       self.refused_after(["withdraw", "0001000", "MA-1"], "what-if", "withdraw", "0001000", "MA-1"))
-        self.assertIn("name a command", self.refused("what-if", "serve", "8080"))
-        self.assertIn("name a command", self.refused("what-if"))
+        self.assertIn("name one of back", self.refused("what-if", "serve", "8080"))
+        self.assertIn("name one of back", self.refused("what-if"))
         self.assertEqual(self.run_office("what-if", "close-hall").returncode, 2)
 
     def refused_after(self, first, *words):

@@ -10,6 +10,12 @@ import unittest
 sys.path.insert(0, str(pathlib.Path(__file__).resolve().parent.parent))
 import help_pages  # noqa: E402
 
+KEEP = """usage: office keep [-h] {start,run,status} [PLACE]
+
+positional arguments:
+  {start,run,status}
+  PLACE               a port
+"""
 PROGRAM = """Seats candidates for exams.
 
 Usage: examoffice --db <db> --today <today> <COMMAND>
@@ -79,7 +85,7 @@ class HelpPages(unittest.TestCase):
 
     def complete(self, *words):
         """What bash offers for the last word."""
-        script = help_pages.completion(self.commands, ["why"])
+        script = help_pages.completion(self.commands, {"why": "", "keep": KEEP})
         given = " ".join(f"'{word}'" for word in words)
         script += f'\nCOMP_WORDS=({given}); COMP_CWORD={len(words) - 1}\n_examoffice {words[0]}; echo "${{COMPREPLY[*]}}"\n'
         with tempfile.TemporaryDirectory() as folder:
@@ -92,8 +98,9 @@ class HelpPages(unittest.TestCase):
             (["examoffice", "--db", "office.db", "--today", "2027-05-01", "im"], "import"),
             (["examoffice", "--d"], "--db"), (["examoffice", "--db", "a"], "a file"),
             (["examoffice", "--db", "a", "--today", "b", "import", "pap"], "papers"),
-            (["office", ""], "import init why"), (["office", "import", ""], "sessions papers halls"),
+            (["office", ""], "import init why keep"), (["office", "import", ""], "sessions papers halls"),
             (["office", "import", "halls", "a"], "a file"), (["office", "init", ""], "a file"),
+            (["office", "keep", "st"], "start status"), (["office", "keep", "start", ""], "a file"),
             (["office", "what-if", "im"], "import"), (["office", "what-if", "import", "pap"], "papers"),
             (["office", "what-if", "import", "halls", "a"], "a file"), (["examoffice", "what-if", "im"], ""),
         ):
