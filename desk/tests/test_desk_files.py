@@ -221,7 +221,7 @@ class TestFiles(Uploads):
             _, found = self.browser.ask("GET", page + "/entries.csv")
             self.assertEqual(found.removeprefix("\ufeff"), '"number","paper"\n"0001051","EN-1"\n', name)
         words = self.browser.words(self.upload(("entries.csv", b"number;paper\n1051;EN-1\n1068;EN-1\n1085;EN-1\n1000;EN-1\n")))
-        self.assertIn("What is read of workbooks 0 mistakes, 4 values read in another form", words)
+        self.assertIn("What is read from workbooks 0 mistakes, 4 values read in another form", words)
         self.assertIn("became 0001051 (zeros in front); 4 such changes", words)
         png = b"\x89PNG\r\n\x1a\n" + bytes(range(256))
         for name, content, said in (

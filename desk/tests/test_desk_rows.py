@@ -231,7 +231,7 @@ class TestSince(DeskSchool):
         self.office("withdraw", "0001051", "EN-1")
         self.office("back", "2", "--yes")
         words = self.browser.words(page)
-        self.assertRegex(words, r"not any more as this change left it\. Since then there was: "
+        self.assertRegex(words, r"no longer as this change left it\. Since then: "
                                 r"\S+ \S+ back to \S+ \S+ \S+ \S+ withdraw 0001051 EN-1 ")
         self.assertNotIn("Take it back", words)
         self.assertRegex(self.browser.get(page), r'href="[^"]*/office/copies/\w+">What changed since')
