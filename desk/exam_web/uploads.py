@@ -303,7 +303,7 @@ def upload() -> Response:
 
 
 def make_room(held: dict[str, Upload], new: Upload) -> None:
-    """Drops the oldest of a visit's uploads beyond so many, and has the new one say so; before that what is imported, or
+    """Drops the oldest of a visit's uploads beyond so many, and has the new one say so; before it what is imported or
     held no table."""
     if len(held) >= MOST_UPLOADS:
         gone = held.pop(min(held, key=lambda key: not held[key].is_imported and held[key].kinds != []))

