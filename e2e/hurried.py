@@ -1,4 +1,4 @@
-"""What hurried people do at the desk in Chromium, for look-at-desk: they stop a page, leave it, go back, bring too much."""
+"""What hurried people do at the desk in Chromium, for look-at-desk: stop a page, leave it, go back, bring too much."""
 import os
 
 FORM, BIG = "document.querySelector('#arrangement button')", "document.querySelector('#drop .big').textContent"
@@ -14,12 +14,17 @@ def hurry(page, base, folder, faults):
 
 def stop(page, base, faults):
     page.go(f"{base}/candidates/1051")
-    page.call("Network.emulateNetworkConditions", offline=False, latency=500, downloadThroughput=-1, uploadThroughput=-1)
+    answer_after(page, 500)
     page.js(f"{FORM}.click(); new Promise((done) => setTimeout(done, 100))")
     page.call("Page.stopLoading")
-    page.call("Network.emulateNetworkConditions", offline=False, latency=0, downloadThroughput=-1, uploadThroughput=-1)
+    answer_after(page, 0)
     faults.expect(page.until(f"{FORM}.textContent + !{FORM}.ariaDisabled") == "See what would changetrue",
                   "a form that was stopped still works")
+
+
+def answer_after(page, milliseconds):
+    page.call("Network.emulateNetworkConditions", offline=False, latency=milliseconds, downloadThroughput=-1,
+              uploadThroughput=-1)
 
 
 def go_back(page, base, faults):
@@ -28,12 +33,17 @@ def go_back(page, base, faults):
     page.keys("7")
     page.js(f"{FORM}.click()")
     page.until("location.pathname.includes('/proposals/') && !!document.querySelector('.confirm .primary')")
+    page.call("Emulation.setEmulatedMedia", media="print")
+    faults.expect(page.js("getComputedStyle(document.querySelector('.card')).breakInside") == "auto",
+                  "a long list of a rehearsal leaves the first sheet empty")
+    page.call("Emulation.setEmulatedMedia", media="")
     page.js("history.back()")
     page.until("location.pathname.endsWith('/1051') && document.readyState === 'complete'")
-    faults.expect(page.js("document.querySelector('#arrangement [name=extra]').value") == "7", "the form is not as it was left")
+    faults.expect(page.js("document.querySelector('#arrangement [name=extra]').value") == "7",
+                  "the form is not as it was left")
     page.js("history.forward()")
     page.until("location.pathname.includes('/proposals/') && document.readyState === 'complete' && "
-               "performance.getEntriesByType('navigation')[0].type !== 'navigate'")  # it comes as it was, and is loaded anew
+               "performance.getEntriesByType('navigation')[0].type !== 'navigate'")  # it is loaded anew
     page.js("document.querySelector('.confirm .primary').click()")
     page.until("!!document.querySelector('.tag.done')")
     page.js("history.go(-2)")
@@ -55,13 +65,15 @@ def leave(page, base, faults):
     page.keys("rest")
     page.js("document.querySelector('nav a').click()")
     page.js("new Promise((done) => setTimeout(done, 200))")
-    faults.expect(asked and page.js("document.querySelector('[name=note]').value") == "rest", "a note that was typed is lost")
+    faults.expect(asked and page.js("document.querySelector('[name=note]').value") == "rest",
+                  "a note that was typed is lost")
     asked.clear()
     page.js("document.querySelector('form[action$=note] button').click()")
     page.until("document.title.startsWith('done')")
     page.js("document.querySelector('#find').focus()")
     page.keys("berg", "Enter")
-    page.until("location.search === '?q=berg' || location.pathname.endsWith('/1051') && !document.title.startsWith('done')")
+    page.until("location.search === '?q=berg' || "
+               "location.pathname.endsWith('/1051') && !document.title.startsWith('done')")
     faults.expect(not asked, "it asks where nothing would be lost")
     page.watch = None
 

@@ -242,8 +242,8 @@ def as_known(given: str, known: str) -> str:
 
 
 def kept(page: Page, form: Form, field: str, known: str) -> str:
-    """A field of what is kept beside the office: what is known, where the field is as the page showed it. Raises `Wrong`
-    where that is another by now."""
+    """A field of what is kept beside the office: what is known, where it is as the page showed it. Raises `Wrong` where
+    that is another by now."""
     given, was = (as_known(form.get(name, known).strip(), known) for name in (field, f"was-{field}"))
     if given not in (was, known) and was != known:
         raise Wrong(page, **{field: text("somebody has changed it meanwhile; it says: {note}", note=known or "–")})

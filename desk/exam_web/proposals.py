@@ -96,6 +96,7 @@ class Plan:
     working: threading.Thread = field(default_factory=threading.Thread)  # which rehearses or does it
     stage: str = ""
     since: str = ""  # when the state was read
+    day: datetime.date | None = None  # then: a session can be over on the next one
     made_from: str = ""  # the states from before the rehearsal, and after it
     promised: str = ""
     answers: list[Answered] = field(default_factory=list)
@@ -190,7 +191,7 @@ def work(plan: Plan, task: Callable[[Plan, Desk, Office], None]) -> None:
 def rehearse(plan: Plan, here: Desk, who: Office) -> None:
     """Carries the plan out on a private copy, and keeps what that would come to; an appeal is lodged and granted there.
     Raises `Trouble` where the steps were made for another state, whatever they would do in this one."""
-    plan.since = datetime.datetime.now().isoformat(" ", "seconds")
+    plan.since, plan.day = datetime.datetime.now().isoformat(" ", "seconds"), here.office.today()
     steps, held = plan.steps, here.held  # from before the office is copied
     with contextlib.ExitStack() as stack:
         if plan.lodge:
@@ -213,13 +214,15 @@ def rehearse(plan: Plan, here: Desk, who: Office) -> None:
 
 
 def carry_out(plan: Plan, here: Desk, who: Office) -> None:
-    """Does what was rehearsed; where the office is another, but for a lodging, which moves nobody, rehearses anew."""
+    """Does what was rehearsed; where the office or the day is another, but for a lodging, which moves nobody, rehearses
+    anew."""
     plan.moved_on = None
     if plan.lodge:
         plan.is_done = plan.grant(who) != []
         return
+    looked_at = plan.made_from if plan.day == here.office.today() else ""  # no state
     try:
-        plan.carried = changing.carry_out(who, plan.steps, plan.made_from, plan.promised, plan.command,
+        plan.carried = changing.carry_out(who, plan.steps, looked_at, plan.promised, plan.command,
                                           partial(setattr, plan, "stage"))
     except Stale:
         since = plan.since

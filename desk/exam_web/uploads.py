@@ -298,18 +298,18 @@ def upload() -> Response:
         found = taken(request.files.getlist("files"), way, hidden)
     if not (found.texts or found.notes or found.lines):
         raise Wrong(("files.page", {}), files=text("Choose the files first."))
-    make_room(g.visit.uploads)
+    make_room(g.visit.uploads, found)
     return lead("files.look", key=keep(g.visit.uploads, MOST_UPLOADS, found))
 
 
-def make_room(held: dict[str, Upload]) -> None:
-    """Drops the oldest of a visit's uploads beyond so many; before that what is imported, or held no table."""
+def make_room(held: dict[str, Upload], new: Upload) -> None:
+    """Drops the oldest of a visit's uploads beyond so many, and has the new one say so; before it what is imported or
+    held no table."""
     if len(held) >= MOST_UPLOADS:
         gone = held.pop(min(held, key=lambda key: not held[key].is_imported and held[key].kinds != []))
         if gone.kinds and not gone.is_imported:
-            told = text("The desk holds {most} uploads: {names}, uploaded {when}, is no longer here.", most=MOST_UPLOADS,
-                        names=gone.names[:MOST_NAMED], when=gone.when)
-            g.visit.said.append(("bad", told))
+            new.note(", ".join(gone.names[:MOST_NAMED]), text(
+                "uploaded {when}, it is no longer here: the desk holds {most}", when=gone.when, most=MOST_UPLOADS))
 
 
 @pages.get("/files/uploaded/<key>")

@@ -225,7 +225,7 @@ class TestRehearsal(DeskSchool):
         before = self.seats()
         for _ in range(2):
             self.browser.post(page + "/do", page, seen=seen)
-            self.assertIn("The office changed while you looked, so nothing was done.", self.browser.words(page))
+            self.assertIn("The office or the day changed while you looked, so nothing was done.", self.browser.words(page))
             self.assertEqual(self.seats(), before)
         self.browser.post(page + "/do", page)
         self.assertIn("What changed", self.browser.words(page))

@@ -258,8 +258,8 @@ class TestFiles(Uploads):
             self.browser.send("/files", "/files", "files", hidden, status=422)  # as if nothing were chosen
         page = self.upload(("all.zip", zipped({"__MACOSX/._halls.csv": b"\0\5", ".DS_Store": b"\0", "halls.csv":
                                                b"hall,title,features\nR20,Room,-\n"})))
-        self.browser.get(page)  # it says once that an older upload is gone
-        self.assertNotIn('class="said', self.browser.get(page))
+        said = re.findall('class="said.*', self.browser.get(page))
+        self.assertEqual([each for each in said if "it is no longer here" not in each], [])  # of an upload from before
 
     def test_two_files_of_a_kind(self):
         rows = b"hall,title,features\nR20,Room,-\n"

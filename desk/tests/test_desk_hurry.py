@@ -1,10 +1,39 @@
-"""The desk in a browser in hurried hands: what is pressed twice, sent from an old page, or brought while much is there."""
+"""The desk in a browser in hurried hands: what is pressed twice, sent from an old page, or brought beside much else."""
 import re
+import subprocess
 import unittest
 import urllib.parse
 
-from desk_client import MARK, STATE, DeskSchool
+import sample
+from desk_client import MARK, PYTHON, STATE, DeskSchool
 
+MIDNIGHT = """
+import datetime, re, sys
+sys.path.insert(0, sys.argv[1])
+from exam_desk.office import Office
+from exam_web import application, desk, guard
+day = [datetime.date(2027, 6, 7)]
+app = application.make(desk.Desk(Office(*sys.argv[2:], lambda: day[0], 'x'), '127.0.0.1:1', '', False))
+app.extensions['guard'].visits = {guard.digest('secret'): guard.Visit('ab', 'mark')}
+client = app.test_client()
+client.set_cookie('localhost', 'desk', 'secret')
+def post(path, **values):
+    found = client.post(path, data={'mark': 'mark', **values}, headers={'Origin': 'http://127.0.0.1:1'})
+    return found.headers['Location']
+def look(page):
+    while 'refresh' in (text := client.get(page).text):
+        pass
+    return {name: value for name, value in re.findall('name="(seen|tick)" value="([^"]+)"', text)}, text
+page = post('/propose/withdraw', number='0001051', paper='CS-1')
+form, _ = look(page)
+print(*form)
+day[0] = datetime.date(2027, 6, 8)
+post(page + '/do', **form)
+form, text = look(page)
+print(*form, 'The office or the day changed while you looked, so nothing was done.' in text)
+post(page + '/do', **form)
+print('tag done' in look(page)[1])
+"""
 ENTRIES = "number,paper\n0001051,{}\n"
 
 
@@ -24,8 +53,9 @@ class TestPressedTwice(DeskSchool):
 
     def test_a_link(self):
         """Who is in comes in by the button that was pressed twice; under other initials nobody does."""
-        for initials, token, status in (("ab", self.browser.token, 303), ("cd", self.browser.token, 422), ("ab", "", 422)):
-            form = urllib.parse.urlencode({"token": token, "initials": initials})
+        token = self.browser.token
+        for initials, given, status in (("ab", token, 303), ("cd", token, 422), ("ab", "", 422)):
+            form = urllib.parse.urlencode({"token": given, "initials": initials})
             self.assertEqual(self.browser.ask("POST", "/enter", form)[0].status, status)
         said = "The desk is open in this browser already, with the initials ab . To the season"
         self.assertIn(said, self.browser.words("/enter"))
@@ -60,6 +90,12 @@ class TestOldPages(DeskSchool):
         self.assertIn("Only a form leads to this address, and none was sent. Nothing was done.",
                       self.browser.get("/propose/enter", 405))
 
+    def test_a_rehearsal_from_before_midnight(self):
+        """A session of that day is over then: its change wants a tick."""
+        line = [PYTHON, "-c", MIDNIGHT, sample.DESK, self.path, sample.built_program()]
+        done = subprocess.run(line, capture_output=True, text=True, check=True)
+        self.assertEqual(done.stdout.split(), ["seen", "seen", "tick", "True", "True"])
+
     def test_a_visit_that_has_ended(self):
         self.browser.post("/leave", "/office")
         answer, _ = self.browser.ask("GET", "/candidates/1051")
@@ -68,12 +104,26 @@ class TestOldPages(DeskSchool):
         self.assertEqual(self.browser.ask("GET", "/office")[0].headers["Location"], f"{self.browser.prefix}/enter")
 
 
+class TestFields(DeskSchool):
+    def test_no_browser_keeps_or_offers_who_was_typed(self):
+        for path in "/candidates", "/candidates/1051", "/sessions/MON-AM":
+            fields = '<input[^>]* name="(?:q|number|name|note|reason|numbers)"[^>]*>'
+            for field in re.findall(fields, self.browser.get(path)):
+                if 'type="hidden"' not in field:
+                    self.assertIn('autocomplete="off"', field, path)
+
+    def test_where_each_hall_is_open_the_fields_of_another_stand_open(self):
+        for session, is_open in ("TUE-AM", True), ("MON-AM", False):
+            text = self.browser.get(f"/sessions/{session}").partition('id="open"')[2]
+            self.assertEqual('<details class="new" open><summary>Or a hall' in text, is_open, session)
+
+
 class TestManyUploads(DeskSchool):
     def bring(self, name, content):
         return self.browser.send("/files", "/files", "files", (name, content.encode()))[0]
 
     def test_what_is_corrected_stays(self):
-        """What is imported, or was no table, goes first; of the rest the oldest, and the next page says so."""
+        """What is imported, or was no table, goes first; of the rest the oldest: the page of the new one says so."""
         first, second = (self.bring("a.csv", ENTRIES.format(paper)) for paper in ("NOPE", "CH-1"))
         page, _ = self.browser.post("/propose/files", second, upload=second.rpartition("/")[2])
         self.browser.post(page + "/do", page)
@@ -81,10 +131,10 @@ class TestManyUploads(DeskSchool):
             self.bring(f"{number}.pdf", str(number))
         last = [self.bring(f"{paper}.csv", ENTRIES.format(paper)) for paper in ("LAT", "PH-1")]
         self.assertIn("NOPE", self.browser.get(first))
-        self.bring("more.csv", ENTRIES.format("EN-1"))
-        self.assertNotIn("is no longer here", self.browser.words("/files"))
+        more = self.bring("more.csv", ENTRIES.format("EN-1"))
+        self.assertNotIn("is no longer here", self.browser.words(more))
         end = self.bring("end.csv", ENTRIES.format("MA-1"))
-        self.assertRegex(self.browser.words(end), r"The desk holds 4 uploads: a\.csv , uploaded 20\S+ \S+ , is no longer here\.")
+        self.assertRegex(self.browser.words(end), r"a\.csv : uploaded 20\S+ \S+ , it is no longer here: the desk hol")
         self.browser.get(first, 404)
         for page in last:
             self.browser.get(page)

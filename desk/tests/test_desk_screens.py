@@ -348,7 +348,7 @@ class TestHearing(DeskSchool):
         self.office("withdraw", "0001051", "EN-1")
         title, said = self.done(page + "/do", page)
         self.assertEqual(title, "Not done: Close R12 for MON-AM")
-        self.assertIn("data-focus><b>The office changed while you looked", self.browser.get(page))
+        self.assertIn("data-focus><b>The office or the day changed while you looked", self.browser.get(page))
         _, text = self.browser.post(page + "/do", page, (303, 422), tick="")
         self.assertEqual(self.done(page + "/do", page)[0], "done: Close R12 for MON-AM")
         self.assertIn('data-focus><span class="tag done">', self.browser.get(page))
