@@ -103,8 +103,7 @@ class Known:
 
     def take(self, kind: str, rows: Sequence[tuple[bytes, ...]]) -> None:
         """Adds the rows of a file."""
-        keys = self.keys.get(kind)
-        if keys is not None:
+        if (keys := self.keys.get(kind)) is not None:
             keys.update(row[0] for row in rows)
         if kind == "entries":
             self.entries.update(rows)

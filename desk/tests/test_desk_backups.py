@@ -135,6 +135,10 @@ class TestBroughtBack(Backups):
         self.assertEqual(self.left(), [])
         self.browser = other
         self.browser.send(*BRING, self.handed_out())
+        cookie, other.token = other.cookie, self.another().token
+        other.enter("cd")  # by a new link
+        self.assertEqual((self.left(), other.ask("GET", "/office", headers={"Cookie": cookie})[0].status), ([], 302))
+        self.browser.send(*BRING, self.handed_out())
         self.end()
         self.assertEqual((self.left(), os.listdir(os.path.join(self.desk, "tmp"))), ([], []))
 
