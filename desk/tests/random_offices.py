@@ -76,18 +76,22 @@ class RandomOffice:
         self.sessions = [f"S{place}" for place in range(self.chance.randint(1, 3))]
         self.papers = {f"P{place}": self.chance.choice(self.sessions) for place in range(self.chance.randint(2, 7))}
         self.halls = [f"H{place}" for place in range(self.chance.randint(2, 6))]
-        for kind, rows in self.files().items():
-            path = os.path.join(self.folder, f"{kind}.csv")
-            with open(path, "w", encoding="utf-8", newline="") as file:
-                csv.writer(file, lineterminator="\n").writerows(rows)
-            self.run("import", kind, path)
+        self.take(self.files())
+        self.change()
         self.change()
         self.before = os.path.join(self.folder, "before")
         os.mkdir(self.before)
         for name in os.listdir(self.folder):
             if name.startswith("office.db"):
                 shutil.copy2(os.path.join(self.folder, name), self.before)
-        self.change()
+        self.chance.choice([self.change, self.amend, self.amend])()
+
+    def take(self, files):
+        for kind, rows in files.items():
+            path = os.path.join(self.folder, f"{kind}.csv")
+            with open(path, "w", encoding="utf-8", newline="") as file:
+                csv.writer(file, lineterminator="\n").writerows(rows)
+            self.run("import", kind, path)
 
     def files(self):
         chance = self.chance
@@ -117,7 +121,7 @@ class RandomOffice:
         return "+".join(name for name in FEATURES if self.chance.random() < share) or "-"
 
     def change(self):
-        """Withdraws, lodges, decides."""
+        """Withdraws, lodges, decides, closes a hall."""
         numbers, chance = sorted(self.codes), self.chance
         for _ in range(3):
             self.run("withdraw", chance.choice(numbers), chance.choice(sorted(self.papers)))
@@ -134,6 +138,12 @@ class RandomOffice:
                 self.run("decide", number, ref, state, chance.choice(NAMES))
         if chance.random() < 0.3:
             self.run("close-hall", chance.choice(self.sessions), chance.choice(self.halls))
+
+    def amend(self):
+        """Imports other rows of one kind, and nothing else."""
+        files = self.files()
+        kind = self.chance.choice([*files])
+        self.take({kind: files[kind]})
 
     def appeal(self, ref, number, ask):
         """A lodging that may well be taken: of what the candidate sits, or misses."""
@@ -443,18 +453,22 @@ class RandomOffice:
         found = telling.differences(before, reading)
         text = telling.csv_text(found, telling.titles_of(reading))
         rows = list(csv.reader(io.StringIO(text.removeprefix("\ufeff"))))[1:]
-        shown = {(row[1], row[2]): (row[6:10], row[12:16]) for row in rows if row[4:10] != row[10:16]}
+        shown = {(row[1], row[2]): (row[6:10], row[12:16]) for row in rows if row[3:10] != [row[-2], *row[10:16]]}
+        began, begins = ({code: head for code, *head in each.rows.execute("SELECT code, day, start FROM session")}
+                         for each in (before, reading))
 
         def columns(seat):
             place = [seat.hall, seat.desk] if seat and seat.hall != "-" else ["", ""]
             return [seat.finish, seat.paper, *place] if seat else [""] * 4
         wanted = {(session, number): (columns(then.get(number)), columns(now.get(number)))
                   for session in self.sessions for then, now in [(old[session], self.now[session])]
-                  for number in then.keys() | now.keys() if then.get(number) != now.get(number)}
+                  for number in then.keys() | now.keys()
+                  if then.get(number) != now.get(number) or began[session] != begins[session]}
         equal(shown, wanted, "changes", telling.text(found))
         self.compared["changes"] += len(wanted)
         for row in rows:
-            equal(row[0], "yes" if row[6:9] != row[12:15] or not row[7] or not row[13] or row[-1] else "no", "tell", row)
+            is_to_tell = [*row[4:9], row[-2]] != [*row[10:15], row[3]] or not row[7] or not row[13] or row[-1]
+            equal(row[0], "yes" if is_to_tell else "no", "tell", row)
 
 
 def part_of(page, first, behind):

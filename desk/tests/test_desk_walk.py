@@ -23,6 +23,8 @@ class Files(RandomOffice):
     def change(self):
         pass
 
+    amend = change
+
 
 class TestWalk(DeskSchool):
     STEPS = int(os.environ.get("WALK", "12"))
