@@ -52,30 +52,33 @@ def go_back(page, base, faults):
 
 
 def leave(page, base, faults):
-    """What was typed and is not sent is asked for; what was sent is not, nor a search."""
-    asked = []
-
-    def stay(event):
-        if event["method"] == "Page.javascriptDialogOpening":
-            asked.append(page.send("Page.handleJavaScriptDialog", accept=False))
-        return bool(asked) and event["method"].startswith("Page.javascriptDialog")
-    page.watch = stay
+    """What was typed and is not sent is asked for; what was sent is not, nor a search: that would stop here."""
     page.go(f"{base}/candidates/1051")
     page.js("document.querySelector('[name=note]').focus()")
     page.keys("rest")
-    page.js("document.querySelector('nav a').click()")
-    page.js("new Promise((done) => setTimeout(done, 200))")
-    faults.expect(asked and page.js("document.querySelector('[name=note]').value") == "rest",
+    faults.expect(asks(page) and page.js("document.querySelector('[name=note]').value") == "rest",
                   "a note that was typed is lost")
-    asked.clear()
     page.js("document.querySelector('form[action$=note] button').click()")
     page.until("document.title.startsWith('done')")
     page.js("document.querySelector('#find').focus()")
     page.keys("berg", "Enter")
     page.until("location.search === '?q=berg' || "
                "location.pathname.endsWith('/1051') && !document.title.startsWith('done')")
-    faults.expect(not asked, "it asks where nothing would be lost")
+
+
+def asks(page):
+    """Whether the browser asks who leaves the page by a link; they stay then."""
+    asked = []
+
+    def stay(event):
+        if event["method"] == "Page.javascriptDialogOpening":
+            asked.append(page.send("Page.handleJavaScriptDialog", accept=False))
+        return event["method"].startswith("Page.javascriptDialog")
+    page.watch = stay
+    page.js("document.querySelector('nav a').click()")
+    page.js("new Promise((done) => setTimeout(done, 200))")
     page.watch = None
+    return bool(asked)
 
 
 def bring_too_much(page, base, folder, faults):
@@ -86,9 +89,15 @@ def bring_too_much(page, base, folder, faults):
     give(page, [path])
     faults.expect("larger than 32 MB" in page.until(BIG) and page.js("document.title").startswith("Files"),
                   f"of a file that is too large it says {page.js(BIG)}")
+    os.truncate(path, 10)
+    answer_after(page, 700)
+    give(page, [path])
+    faults.expect(asks(page), "an upload is left without a question")
+    answer_after(page, 0)
+    page.until("location.pathname.includes('/uploaded/')")
+    page.go(f"{base}/files")
     page.js("fetch(document.querySelector('.leave').action, {method: 'POST', body: new URLSearchParams("
             "new FormData(document.querySelector('.leave')))})")
-    os.truncate(path, 10)
     give(page, [path])
     page.until(f"{BIG}.includes('choose the files again')")
     page.complaints()

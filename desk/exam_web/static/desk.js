@@ -126,9 +126,11 @@ async function send(drop, found) {
   line.setAttribute("role", "status");  // first, so that what it says is announced
   line.textContent = isTooLarge(drop, found) ? drop.dataset.large : drop.dataset.working;
   if (isTooLarge(drop, found)) return;
+  drop.dataset.typed = "typed";  // who leaves now is asked
   try {
     const answer = await fetch(drop.action, {method: "POST", body: form, credentials: "same-origin"});
     if (mine !== brought) return;  // others came meanwhile; the page of these stands among what is uploaded
+    delete drop.dataset.typed;
     if (answer.redirected) {
       location.href = answer.url;
       return;
@@ -139,6 +141,7 @@ async function send(drop, found) {
     document.querySelector("main").replaceChildren(...main.children);
     toWhatIsSaid();
   } catch (fault) {
+    delete drop.dataset.typed;
     line.textContent = fault.message === "401" ? drop.dataset.ended : drop.dataset.nothing;
   }
 }
