@@ -17,7 +17,7 @@ from exam_desk.listed import OF_THE_OFFICE  # noqa: E402
 from exam_desk.office import Office  # noqa: E402
 from exam_desk.running import Ran  # noqa: E402
 from exam_desk.workbook.values import Way  # noqa: E402
-from exam_web import application, desk, guard, proposals, uploads, wording  # noqa: E402
+from exam_web import application, brought, desk, guard, proposals, wording  # noqa: E402
 
 WHO, MONDAY = {"number": "0001051"}, {"session": "MON-AM"}
 FORMS = {  # a form of each plan that the sample school takes, and the page that it stands on
@@ -51,7 +51,7 @@ class Browser:
         self.visit = guard.Visit("ab", "mark")
         self.app.extensions["guard"].visits[guard.digest("secret")] = self.visit
         self.client.set_cookie("localhost", "desk", "secret")
-        self.visit.uploads["files"] = uploads.Upload(Way(), texts={"halls": b"hall,title,features\nR20,x,-\n",
+        self.visit.uploads["files"] = brought.Upload(Way(), texts={"halls": b"hall,title,features\nR20,x,-\n",
                                                       "entries": b"number,paper\n0001051,CH-1\n"})
 
     def post(self, path, values):

@@ -16,18 +16,18 @@ from sample import DESK, KINDS
 KEPT_TOGETHER = """
 from unittest import mock
 from exam_desk.workbook.values import Way
-from exam_web import uploads
-upload = uploads.Upload(Way(), books=[("a.csv", b"a;b\\n1;2\\n"), ("b.csv", b"a;b\\n1;2\\n"), ("c.csv", b"x\\n")])
-with mock.patch.multiple(uploads, MOST_CELLS=5, text=lambda words, **values: words):
-    print([sheet.name for sheet in uploads.together(upload).sheets], *map(str, upload.notes), sep="\\n")
+from exam_web import brought
+upload = brought.Upload(Way(), books=[("a.csv", b"a;b\\n1;2\\n"), ("b.csv", b"a;b\\n1;2\\n"), ("c.csv", b"x\\n")])
+with mock.patch.multiple(brought, MOST_CELLS=5, text=lambda words, **values: words):
+    print([sheet.name for sheet in brought.together(upload).sheets], *map(str, upload.notes), sep="\\n")
     upload.books, upload.notes = [], []
     for name, content in ("d.csv", b"12345"), ("e.csv", b"123456"):
-        uploads.take(upload, name, content, 5)
+        brought.take(upload, name, content, 5)
     print([name for name, _ in upload.books], *map(str, upload.notes), sep="\\n")
     upload.books, upload.notes = [("f.csv", b"a;b\\n1;2\\n")], []
-    with mock.patch.multiple(uploads, view=mock.MagicMock(), said=str,
-                             read_book=mock.Mock(side_effect=uploads.Trouble("too much"))):
-        uploads.read_books(upload)
+    with mock.patch.multiple(brought, view=mock.MagicMock(), said=str,
+                             read_book=mock.Mock(side_effect=brought.Trouble("too much"))):
+        brought.read_books(upload)
     print(*map(str, upload.notes), sep="\\n")
 """
 HALLS = b"hall,title,features\nR20,Room,-\n"
