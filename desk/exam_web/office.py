@@ -51,8 +51,8 @@ def page() -> str:
     school = address = ""
     with contextlib.suppress(Trouble):  # a file is damaged: what changes the name says so
         school, address = about_school()
-    return render_template("office.html", copies=found, keep=turns.keep_state(desk().office), school=school, address=address,
-                           log=done_since(desk().office, "")[:-MOST_LINES - 1:-1])
+    return render_template("office.html", copies=found, keep=turns.keep_state(desk().office), school=school,
+                           address=address, log=done_since(desk().office, "")[:-MOST_LINES - 1:-1])
 
 
 @pages.get("/office/copies/<key>")
