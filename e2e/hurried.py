@@ -1,5 +1,9 @@
 """What hurried people do at the desk in Chromium, for look-at-desk: stop a page, leave it, go back, bring too much."""
+import contextlib
 import os
+import time
+
+from browser import PATIENCE
 
 FORM, BIG = "document.querySelector('#arrangement button')", "document.querySelector('#drop .big').textContent"
 
@@ -14,7 +18,7 @@ def hurry(page, base, folder, faults):
 
 def stop(page, base, faults):
     page.go(f"{base}/candidates/1051")
-    answer_after(page, 500)
+    answer_after(page, 20_000)  # it is stopped before
     page.js(f"{FORM}.click(); new Promise((done) => setTimeout(done, 100))")
     page.call("Page.stopLoading")
     answer_after(page, 0)
@@ -59,7 +63,8 @@ def leave(page, base, faults):
     faults.expect(asks(page) and page.js("document.querySelector('[name=note]').value") == "rest",
                   "a note that was typed is lost")
     page.js("document.querySelector('form[action$=note] button').click()")
-    page.until("document.title.startsWith('done')")
+    page.until("document.title.startsWith('done') && document.readyState === 'complete'"
+               " && document.activeElement !== document.body")  # it has put the focus where it belongs
     page.js("document.querySelector('#find').focus()")
     page.keys("berg", "Enter")
     page.until("location.search === '?q=berg' || "
@@ -76,7 +81,10 @@ def asks(page):
         return event["method"].startswith("Page.javascriptDialog")
     page.watch = stay
     page.js("document.querySelector('nav a').click()")
-    page.js("new Promise((done) => setTimeout(done, 200))")
+    end = time.monotonic() + PATIENCE
+    with contextlib.suppress(RuntimeError):  # a page that was left
+        while not asked and time.monotonic() < end:
+            page.js("new Promise((done) => setTimeout(done, 20))")
     page.watch = None
     return bool(asked)
 
@@ -90,7 +98,7 @@ def bring_too_much(page, base, folder, faults):
     faults.expect("larger than 32 MB" in page.until(BIG) and page.js("document.title").startswith("Files"),
                   f"of a file that is too large it says {page.js(BIG)}")
     os.truncate(path, 10)
-    answer_after(page, 700)
+    answer_after(page, 2000)
     give(page, [path])
     faults.expect(asks(page), "an upload is left without a question")
     answer_after(page, 0)
