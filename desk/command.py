@@ -185,7 +185,8 @@ def ask(question: str) -> None:
     """Raises `Trouble` unless the answer is yes."""
     say(f"{question} [y/N] ")
     answer = sys.stdin.readline()
-    say("\n" * (not answer.endswith("\n")))  # nobody pressed Enter
+    if not answer.endswith("\n"):  # nobody pressed Enter
+        say("\n")
     if answer.strip().lower() not in ("y", "yes"):
         raise Trouble("nothing is changed")
 

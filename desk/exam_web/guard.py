@@ -134,8 +134,8 @@ class Guard:
             return found
 
     def begin(self, response: Response, initials: str) -> None:
-        """Starts a visit in the place of the browser's last one. Cookies know no ports, so this one is for the secret path
-        of this desk: no other server of the machine is sent it."""
+        """Starts a visit in the place of the browser's last one. Cookies know no ports, so this one is for the secret
+        path of this desk: no other server of the machine is sent it."""
         secret = secrets.token_urlsafe(32)
         with self.lock:
             self.visits.pop(digest(request.cookies.get(COOKIE, "")), None)
