@@ -188,6 +188,7 @@ def turn(office: Office, title: str, made_from: str | None = None) -> Iterator[F
         if found := logbook.unfinished(office):
             office.warn(way_on(office, found))
             logbook.write_done(office, [found.command], 1, "broken off")
+            copies.kept_if_other(office, beside.folder(office.path, copies.PLACE, found.copy))
         yield lock
 
 
@@ -329,7 +330,8 @@ def way_on(office: Office, found: logbook.Unfinished) -> str:
         return f"{what}, and there is no copy from before it: look what is done"
     with contextlib.suppress(Trouble):
         if state_of(office) == snapshot.name_now(office, copies.file_in(office, copy)):
-            return f"{what}, and the office is as before: give it again"
+            anew = ", with the number that `office back` has for it now" if found.command.startswith("back ") else ""
+            return f"{what}, and the office is as before: give it again{anew}"
     return f"{what}: {way_back(copy)}"
 
 

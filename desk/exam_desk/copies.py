@@ -86,7 +86,13 @@ def file_in(office: Office, folder: str) -> str:
 
 
 def drop(copy: str) -> None:
-    shutil.rmtree(copy, ignore_errors=True)
+    """Removes a copy. It becomes a private folder that nobody uses first: of who is killed then no part of it is left
+    among the copies, where it would be an older office without its second file."""
+    desk, name = os.path.split(os.path.dirname(copy))[0], os.path.basename(copy)
+    gone = os.path.join(desk, private.PLACE, private.PREFIX + name)
+    with contextlib.suppress(OSError):
+        os.rename(copy, gone)
+        shutil.rmtree(gone, ignore_errors=True)
 
 
 def is_as_now(office: Office, copy: str) -> bool:

@@ -448,7 +448,7 @@ class Killed(Changing):
     def test_back(self):
         """The next change names the copy from before it, also where that is as the office is."""
         copy, place = changing.carry_out(self.value, STEPS[:1]).copy, "exam_desk.copies.move_in"
-        for work, said in ((lambda *_: None, ", and the office is as before: give it again"),
+        for work, said in ((lambda *_: None, ", and the office is as before: give it again, .*"),
                            (copies.move_in, ": `office back` lists the copy of .*, before back to .*, and puts it back")):
             if not (child := os.fork()):
                 try:
@@ -459,6 +459,37 @@ class Killed(Changing):
             self.assertEqual(os.waitpid(child, 0)[1], signal.SIGKILL)
             self.assertRegex(self.run_office("reinstate", "0001000", "MA-2").stderr,
                              f"^office: `back 1` of .* was broken off{said}\n")
+
+    def test_back_that_did_nothing_has_another_number_then(self):
+        """Its own copy is the first of the list: the number that was given would put back what is there."""
+        copy, after = changing.carry_out(self.value, STEPS[:1]).copy, self.state()
+        if not (child := os.fork()):
+            try:
+                with mock.patch("exam_desk.copies.move_in", lambda *_: os.kill(os.getpid(), signal.SIGKILL)):
+                    changing.go_back(self.value, ["back", "1"], copy, lambda lines: True)
+            finally:
+                os._exit(1)
+        os.waitpid(child, 0)
+        self.assertRegex(self.run_office("summary").stderr, "the office is as before: give it again, with the number that "
+                                                            "`office back` has for it now\n$")
+        self.assertRegex(self.run_office("back", "1", "--yes").stderr, "this copy is gone by now: `office back` lists what is")
+        self.assertEqual((self.state(), self.kept()), (after, [copy]))
+        self.office("back", "1", "--yes")
+        self.assertNotEqual(self.state(), after)
+
+    def test_a_copy_that_is_half_gone_is_none(self):
+        """A part of one would be put back as if it were whole: without the second file it is an older office."""
+        self.office("withdraw", "0001000", "MA-1")
+        if not (child := os.fork()):
+            try:
+                with mock.patch("os.unlink", lambda *_, **__: os.kill(os.getpid(), signal.SIGKILL)):
+                    copies.drop(self.kept()[0])
+            finally:
+                os._exit(1)
+        self.assertEqual(os.waitpid(child, 0)[1], signal.SIGKILL)
+        self.assertEqual(self.kept(), [])
+        self.office("reinstate", "0001000", "MA-1")
+        self.assertEqual((len(self.kept()), os.listdir(os.path.join(self.desk, "tmp"))), (1, []))
 
     def test_the_title_that_a_person_typed_is_said(self):
         words = ["open-hall", "MON-AM", "GYM", "12", "12:30", "--reserved"]
