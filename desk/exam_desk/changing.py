@@ -188,7 +188,6 @@ def turn(office: Office, title: str, made_from: str | None = None) -> Iterator[F
         if found := logbook.unfinished(office):
             office.warn(way_on(office, found))
             logbook.write_done(office, [found.command], 1, "broken off")
-            copies.kept_if_other(office, beside.folder(office.path, copies.PLACE, found.copy))
         yield lock
 
 
@@ -265,6 +264,8 @@ def go_back(office: Office, words: Sequence[str], copy: str, may_go: Callable[[l
             stack.enter_context(turn(office, " ".join(words), made_from))
             if not os.path.isdir(copy):
                 raise Trouble("this copy is gone by now: `office back` lists what is there; nothing is changed")
+            if copies.is_as_now(office, copy):  # such as that of a command that was killed before it did anything
+                raise Trouble("the office is as in this copy already: `office back` lists others; nothing is changed")
             lines = copies.losses(office, copy)
             if not may_go(lines):
                 return Back(False, lines, None)

@@ -73,7 +73,8 @@ def read(path: str, tell: Callable[[str], None] = lambda text: None) -> bytes:
 
 
 def put(path: str, text: bytes) -> None:
-    """Makes a file for its owner alone, whole or not at all. Raises `Trouble` where something has its name."""
+    """Makes a file for its owner alone, whole and on the disk, or not at all. Raises `Trouble` where something has its
+    name."""
     try:
         number = os.open(path, os.O_WRONLY | os.O_CREAT | os.O_EXCL, 0o600)
     except FileExistsError:
@@ -81,6 +82,8 @@ def put(path: str, text: bytes) -> None:
     try:
         with beside.naming(path), open(number, "wb") as file:
             file.write(text)
+            file.flush()
+            os.fsync(number)
     except BaseException:
         os.remove(path)
         raise

@@ -226,7 +226,6 @@ def keep(office: Office, name: str, change: Callable[[Any], object]) -> tuple[An
                 os.unlink(old)
         if now is not None:
             files.put(path + NEW, json.dumps(now, indent=0).encode("ascii"))
-            beside.sync(path + NEW)
             os.rename(path + NEW, path)
         beside.sync(os.path.dirname(path))
     return before, now
@@ -240,7 +239,6 @@ def copy_into(office: Office, target: str) -> None:
         os.mkdir(place, 0o700)
         for name, text in found.items():
             files.put(os.path.join(place, name), text)
-            beside.sync(os.path.join(place, name))
 
 
 def set_aside(office: Office) -> tuple[str, list[str]]:

@@ -102,6 +102,13 @@ class TestTaken(Backups):
             self.assertEqual({*found}, {"office.db", "office.db-wal", "notebook/school.json"})
             self.assertEqual(snapshot.name_now(self.value, found["office.db"]), before)
 
+    def test_what_is_said_to_be_there_is_on_the_disk(self):
+        """Whoever takes the stick out as soon as the command has ended has all of it."""
+        synced = []
+        with mock.patch("os.fsync", lambda file: synced.append((os.readlink(f"/proc/self/fd/{file}"), os.fstat(file).st_size))):
+            files.put(path := os.path.join(self.folder, "b.zip"), b"1234")
+        self.assertEqual(synced, [(path, 4)])
+
     def test_a_full_disk_keeps_none_back(self):
         """It is packed in TMPDIR then; where the new file has no room, nothing of it is left."""
         full = OSError(errno.ENOSPC, "No space left on device")

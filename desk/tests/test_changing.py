@@ -472,9 +472,9 @@ class Killed(Changing):
         os.waitpid(child, 0)
         self.assertRegex(self.run_office("summary").stderr, "the office is as before: give it again, with the number that "
                                                             "`office back` has for it now\n$")
-        self.assertRegex(self.run_office("back", "1", "--yes").stderr, "this copy is gone by now: `office back` lists what is")
-        self.assertEqual((self.state(), self.kept()), (after, [copy]))
-        self.office("back", "1", "--yes")
+        self.assertRegex(self.run_office("back", "1", "--yes").stderr, "the office is as in this copy already: `office back` lists")
+        self.assertEqual((self.state(), self.kept()[1:]), (after, [copy]))
+        self.office("back", "2", "--yes")
         self.assertNotEqual(self.state(), after)
 
     def test_a_copy_that_is_half_gone_is_none(self):

@@ -155,7 +155,7 @@ class Notebook(unittest.TestCase):
     def test_what_is_kept_or_taken_away_is_on_the_disk(self):
         """The file before it has its name, then the name."""
         steps, rename, unlink = [], os.rename, os.unlink
-        with (mock.patch.object(beside, "sync", lambda path: steps.append(("sync", os.path.basename(path)))),
+        with (mock.patch("os.fsync", lambda file: steps.append(("sync", os.path.basename(os.readlink(f"/proc/self/fd/{file}"))))),
               mock.patch("os.rename", lambda old, new: (steps.append("name"), rename(old, new))),
               mock.patch("os.unlink", lambda path: (unlink(path), steps.append("gone")))):
             for value in ([], None):
