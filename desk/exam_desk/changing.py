@@ -171,6 +171,7 @@ def copied(office: Office, title: str, used: str = "") -> Iterator[str]:
         yield copy
     except BaseException as fault:
         is_kept = copies.kept_if_other(office, copy)
+        titles.renew(office)
         if isinstance(fault, SystemExit):  # a signal
             office.warn("stopped: look whether it is done; `office back 1` takes it back then" if is_kept else
                         "stopped: nothing is changed")
@@ -188,6 +189,7 @@ def turn(office: Office, title: str, made_from: str | None = None) -> Iterator[F
         if found := logbook.unfinished(office):
             office.warn(way_on(office, found))
             logbook.write_done(office, [found.command], 1, "broken off")
+            titles.renew(office)  # it may be done all the same
         yield lock
 
 

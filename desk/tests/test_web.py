@@ -203,6 +203,21 @@ class Titles(SampleSchool):
         self.assertNotIn("NOTE", change("import", "halls", halls).stderr)
         self.assertFalse(os.path.exists(path))
 
+    def test_a_change_that_was_stopped_writes_it_again(self):
+        """Where a signal lets the command clean up by itself; where it was killed the next change does, of whatever kind."""
+        path, halls, program = (pathlib.Path(self.folder.name, name) for name in ("titles.json", "halls.csv", "program"))
+        self.titles(str(path))
+        for sent, title in ("INT", "Annex"), ("KILL", "Barn"):
+            halls.write_text(f"hall,title,features\nGYM,{title},step-free\n", "utf-8")
+            program.write_text(f'#!/bin/sh\n{PROGRAM} "$@"\n[ "$5 $6" = "import halls" ] && kill -{sent} $PPID && exec sleep 9\n')
+            program.chmod(0o700)
+            stopped = subprocess.run([OFFICE, "import", "halls", str(halls)], capture_output=True, check=False,
+                                     env={**self.environment, "EXAMOFFICE": str(program)})
+            self.assertNotEqual(stopped.returncode, 0)
+            if sent == "KILL":
+                subprocess.run([OFFICE, "withdraw", "0001000", "MA-1"], env=self.environment, capture_output=True, check=True)
+            self.assertIn(f'"GYM": "{title}"', path.read_text("ascii"))
+
     def test_a_copy_of_the_folder_leaves_the_page_to_the_office_that_has_it(self):
         """Whoever tries a change in a copy changes nothing that candidates see; an office that has moved says so."""
         path = pathlib.Path(self.folder.name, "titles.json")
