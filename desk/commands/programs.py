@@ -122,7 +122,8 @@ class List(Change):
         words, status = f"line {line}: {answered.step.title()}: {answered.first_line()}", answered.ran.status
         if not status:
             return int(not put(f"{plain(words)}\n"))
-        command.complain([words, *below(answered)])
+        with contextlib.suppress(OSError):  # the other rows are carried out, whoever reads what comes of this one
+            command.complain([words, *below(answered)])
         return status
 
 
@@ -140,8 +141,8 @@ class Back(Change):
         """Says what is taken away, and what is left as it is beside the office though the copy has it otherwise."""
         others = notebook.others_than_in(command.office(), self.copy)
         left = [f"left as they are now, and otherwise in the copy: {', '.join(others)}"] if others else []
-        command.say_lines([f"the office {verb} {copies.state_of(self.copy)}",
-                           *(f"taken away: {line}" for line in taken), *left])
+        put("".join(f"{plain(line)}\n" for line in [f"the office {verb} {copies.state_of(self.copy)}",
+                                                    *(f"taken away: {line}" for line in taken), *left]))
 
     def __call__(self) -> int:
         """It asks again where the office changed while the question stood, or appeals and decisions came."""

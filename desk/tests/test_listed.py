@@ -279,13 +279,14 @@ class Listed(test_changing.Changing):
             ["withdraw 0001000 MA-1", "0", "withdrawn"], ["withdraw --list x", "1", "stopped: look whether it is done"]]))
 
     def test_whoever_reads_may_go(self):
-        """The output cannot be written, and all rows are done."""
+        """What comes of them cannot be written anywhere, and all rows are done, also behind one that is refused."""
         path = self.write(NAME, GOOD)
+        self.office("withdraw", "0001000", "MA-1")
         with open("/dev/full", "w", encoding="utf-8") as full:
             done = subprocess.run([sample.DESK / "office", "withdraw", "--list", path],
-                                                 env=self.environment, stdout=full, check=False)
+                                  env=self.environment, stdout=full, stderr=full, check=False)
         self.assertEqual(done.returncode, 1)
-        self.assertEqual([answer for _, _, answer in self.log()[1:] if answer], ["withdrawn", "withdrawn", "2 of 2 rows"])
+        self.assertEqual([answer for _, _, answer in self.log()[3:] if answer], ["refused 9", "withdrawn", "2 of 2 rows"])
 
 
 def waits(process):

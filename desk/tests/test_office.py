@@ -494,6 +494,11 @@ class Back(sample.SampleSchool):
         self.office("back", "3", "--yes")
         self.assertEqual(self.facts(), before)
         self.assertEqual(self.office("check"), "good\n")
+        with open("/dev/full", "w", encoding="utf-8") as full:  # a refusal would have it given again, which undoes it
+            done = subprocess.run([sample.DESK / "office", "back", "1", "--yes"], env=self.environment, stdout=full,
+                                  stderr=subprocess.PIPE, encoding="utf-8")
+        self.assertEqual((done.returncode, self.facts()), (0, after))
+        self.assertIn("`office changes 1` lists them", done.stderr)
         done = self.run_office("back", "one")
         self.assertEqual((done.returncode, done.stdout), (2, ""))
         self.assertIn("argument NUMBER: invalid int value: 'one'\n", done.stderr)
