@@ -6,6 +6,7 @@ import contextlib
 import csv
 import datetime
 import io
+import itertools
 import os
 import re
 import select
@@ -58,6 +59,13 @@ class Record(NamedTuple):
     line: int  # of the file, where it begins
     fields: tuple[bytes, ...]
     closed: bool  # no quote is left open
+
+
+def parts_of(names: Collection[str]) -> dict[str, str]:
+    """Of the import files among these names, in the order of an import, the kinds: entries-2.csv goes on where
+    entries.csv ends, and so does the next number."""
+    return {name: kind for kind in HEADERS for name in itertools.takewhile(names.__contains__, itertools.chain(
+        [f"{kind}.csv"], map(f"{kind}-{{}}.csv".format, itertools.count(2))))}
 
 
 def read(path: str, tell: Callable[[str], None] = lambda text: None) -> bytes:

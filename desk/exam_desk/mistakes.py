@@ -302,13 +302,13 @@ def check_folder(office: Office, folder: str) -> tuple[list[str], Counter[str]]:
     before it bring. Gives the lines, and how many files, mistakes, empty codes and notes there are. Raises `Trouble` at
     what is no file."""
     names, known, lines, counts = sorted(os.listdir(folder)), office_knows(office), list[str](), Counter[str]()
-    texts = {kind: files.read(os.path.join(folder, f"{kind}.csv")) for kind in files.HEADERS if f"{kind}.csv" in names}
-    for kind, text in texts.items():
+    texts = {name: (kind, files.read(os.path.join(folder, name))) for name, kind in files.parts_of(names).items()}
+    for name, (kind, text) in texts.items():
         wrong, notes = looked_through(kind, text, known, MOST_SHOWN)
-        lines += [*lines_on(f"{kind}.csv", wrong, ""), *lines_on(f"{kind}.csv", notes, "NOTE: ")]
+        lines += [*lines_on(name, wrong, ""), *lines_on(name, notes, "NOTE: ")]
         counts.update(files=1, mistakes=wrong.count, codes=wrong.counts[NO_CODE], notes=notes.count)
     for name in names:
-        if name.lower().endswith(files.TABLES) and name.removesuffix(".csv") not in texts:
+        if name.lower().endswith(files.TABLES) and name not in texts:
             why = "none of the seven names, so it is not looked at" if name.lower().endswith(".csv") else \
                 "a workbook: `office read` makes the files of it"
             lines.append(f"NOTE: {name} is {why}")
@@ -319,9 +319,10 @@ def check_folder(office: Office, folder: str) -> tuple[list[str], Counter[str]]:
     return lines, counts
 
 
-def would_do(office: Office, texts: Mapping[str, bytes]) -> tuple[list[str], list[str]]:
-    """What the program refuses of imports into a private copy of the office, and what they would do to candidates."""
-    steps = [Step(("import", kind, f"{kind}.csv"), text) for kind, text in texts.items()]
+def would_do(office: Office, texts: Mapping[str, tuple[str, bytes]]) -> tuple[list[str], list[str]]:
+    """What the program refuses of imports into a private copy of the office, and what they would do to candidates. The
+    files have their kinds and contents by their names."""
+    steps = [Step(("import", kind, name), text) for name, (kind, text) in texts.items()]
     with changing.rehearse(office, steps) as rehearsal:
         if refused := changing.refused_of(rehearsal.answers):
             means = "; ".join(refused.explained()) or refused.first_line()

@@ -439,12 +439,25 @@ class Mending(unittest.TestCase):
     def test_the_choices_of_others_stay(self) -> None:
         """All files of a kind are one list, and no workbook after them is read so for that."""
         with tempfile.TemporaryDirectory() as folder:
-            for place, name in enumerate(("entries.csv", "entries-2.csv", "entries-10.csv"), 1):
-                pathlib.Path(folder, name).write_text(f"number,paper\n000000{place},MA-1\n", "utf-8")
+            for place, name in enumerate(("entries.csv", *(f"entries-{place}.csv" for place in range(2, 11))), 1):
+                pathlib.Path(folder, name).write_text(f"number,paper\n{place:07},MA-1\n", "utf-8")
             job = mend_folder(folder, Job(Known()), None)
-        self.assertEqual((["0000001", "0000002", "0000003"], 0),
+        self.assertEqual(([f"{place:07}" for place in range(1, 11)], 0),
                          ([record.fields[0] for record in job.records["entries"]], job.count("mistake")))
         self.assertEqual([], Job(Known()).together)
+
+    def test_a_file_of_another_year_is_no_second_part(self) -> None:
+        """entries-2.csv goes on where entries.csv ends; a number that follows none is part of a name, as in entries-2026.csv."""
+        with tempfile.TemporaryDirectory() as folder:
+            for place, name in enumerate(("entries.csv", "entries-2.csv", "entries-4.csv", "entries-2026.csv", "candidates-2.csv"), 1):
+                text = "number,name,code\n" if name.startswith("c") else f"number,paper\n{place:07},MA-1\n"
+                pathlib.Path(folder, name).write_text(text, "utf-8")
+            job = mend_folder(folder, Job(Known()), None)
+        self.assertEqual(["0000001", "0000002"], [record.fields[0] for record in job.records["entries"]])
+        self.assertEqual({"NOTE: entries-2.csv goes on where entries.csv ends", *(
+            f"NOTE: {name} is none of the seven files; it is not read"
+            for name in ("entries-4.csv", "entries-2026.csv", "candidates-2.csv"))},
+            {line.whole() for line in job.lines if line.sheet is None and ".csv" in line.text})
 
     def test_a_second_file_is_of_its_kind_whatever_it_has(self) -> None:
         with tempfile.TemporaryDirectory() as folder:
@@ -453,8 +466,9 @@ class Mending(unittest.TestCase):
                 pathlib.Path(folder, name).write_text(text, "utf-8")
             lines = [line.whole() for line in mend_folder(folder, Job(Known()), None).lines]
         self.assertEqual(["NOTE: Pupils.XLSX is none of the seven files; it is not read",
-                          "halls: NOTE: is empty, so it is not read"], lines[:2])
-        self.assertRegex(lines[2], "^'entries-2'!1: MISTAKE: no row is a header with number and paper")
+                          "NOTE: entries-2.csv goes on where entries.csv ends",
+                          "halls: NOTE: is empty, so it is not read"], [*sorted(lines[:2]), lines[2]])
+        self.assertRegex(lines[3], "^'entries-2'!1: MISTAKE: no row is a header with number and paper")
 
     def test_the_code_of_the_office_stands_where_none_is(self) -> None:
         known = Known()
@@ -623,6 +637,24 @@ class Commands(sample.SampleSchool):
         said = self.office("check-files", "facts")
         self.assertIn("NOTE: school.xlsx is a workbook: `office read` makes the files of it", said)
         self.assertIn("NOTE: PUPILS.CSV is none of the seven names, so it is not looked at", said)
+
+    def test_check_files_looks_at_what_take_brings_in(self) -> None:
+        """A second part is looked at after the first, and so is what refers to it; the list of another year is not."""
+        os.mkdir(os.path.join(self.folder, "facts"))
+        for name, text in (("candidates.csv", "number,name,code\n0009001,Ada,CODE9001\n"),
+                           ("candidates-2.csv", "number,name,code\n0009002,Bo,CODE9002\n9003,Cy,CODE9003\n"),
+                           ("candidates-2026.csv", "number,name,code\n0009004,Di,CODE9004\n"),
+                           ("entries.csv", "number,paper\n0009002,EN-1\n")):
+            self.write(os.path.join("facts", name), text)
+        done = self.run_office("check-files", "facts")
+        self.assertEqual((1, ["candidates-2.csv line 3: number '9003': write 0009003 (seven digits; format the column as text)",
+                              "NOTE: candidates-2026.csv is none of the seven names, so it is not looked at",
+                              "3 files, 1 mistake, 0 notes"]), (done.returncode, done.stdout.splitlines()))
+        self.write("facts/candidates-2.csv", "number,name,code\n0009002,Bo,CODE9002\n")
+        self.assertIn("3 files, 0 mistakes, ", self.office("check-files", "facts"))
+        said = self.office("take", "facts", "--yes")
+        self.assertIn("candidates.csv: added 2 changed 0 same 0", said)
+        self.assertNotIn("0009004", self.office("dump", "new") and str(self.rows("new", "candidates")))
 
     @needs_openpyxl
     def test_a_workbook_of_many_changes_takes_few_lines(self) -> None:
