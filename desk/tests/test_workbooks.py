@@ -327,6 +327,19 @@ class Values(unittest.TestCase):
         for dates, day in ("day-first", "Tuesday, 1 June"), ("month-first", "Wednesday, 6 January"):
             self.assertEqual(f"{day} 2027, {dates}", self.read("date", "01/06/2027", dates)[1])
 
+    def test_what_is_to_be_written_is_right(self) -> None:
+        """The value that a cure names is one that its column takes; where there is none it names the form alone."""
+        for column, text, said in (("hall", "A 1", "write A1 if"), ("hall", "Raum 101", "write RAUM101 if"), ("hall", "R\ud800 1", "1 to 8 of"),
+                                   ("hall", "Room no 101", "1 to 8 of"), ("code", "wk3d egzd pc", "write WK3DEGZDPC if"),
+                                   ("session", "Mon  am", "write MON-AM if"), ("paper", "Computer science", "1 to 12 of"),
+                                   ("number", "1 234", "write 0001234 if"), ("number", "12.345.678", "seven digits"),
+                                   ("start", "9.30", "write 09:30 if"), ("start", "24.00", "a time as"), ("until", "24.00", "write 24:00 if"),
+                                   ("until", "25h30", "a time as")):
+            [why] = self.read(column, text)
+            self.assertIn(said, why, (column, text))
+            for value in re.findall("write (\\S+) if", why):
+                self.assertTrue(files.RIGHT[column](value.encode()), why)
+
     def test_what_no_eye_sees_is_taken_out(self) -> None:
         """All format characters but the joiners, which are kept, and marks of other scripts, which are seen."""
         marks = {chr(code) for code in range(1 << 16) if unicodedata.category(chr(code)) == "Cf"}

@@ -178,7 +178,7 @@ def read_number(column: str, cell: Cell, text: str, way: Way) -> Value:
     quoted = cell.kind == "text" and text.startswith(QUOTES)
     digits = text[1:] if quoted else text
     padded = mistakes.with_zeros(files.encoded(digits)).decode("utf-8", "surrogatepass")
-    if re.fullmatch(r"[0-9]{1,3}([ ,.'’][0-9]{3})+", digits):
+    if re.fullmatch(r"[1-9][0-9]{0,2}[ ,.'’][0-9]{3}|[1-9][ ,.'’][0-9]{3}[ ,.'’][0-9]{3}", digits):
         raise Wrong(f"marks between the digits: write {re.sub('[^0-9]', '', digits).zfill(7)} if that is meant")
     if re.fullmatch(r"[0-9]{8,}", digits):
         raise Wrong(f"{len(digits)} digits; a number has seven")
@@ -193,8 +193,8 @@ def read_code(column: str, cell: Cell, text: str, way: Way) -> Value:
         return Value(text, "", "is a number in the workbook: right only if the code has no zeros in front and no E")
     plain = text.translate(DASHES)
     code = plain.upper() if plain.isascii() else plain
-    joined = re.sub(r"\s+", "-", code)
-    if joined != code and files.is_code(joined.encode()):
+    joined = re.sub(r"\s+", "-" if column in ("session", "paper") else "", code)
+    if joined != code and files.RIGHT[column](files.encoded(joined)):
         raise Wrong(f"a space inside: write {joined} if that is meant ({mistakes.CURES[column]})")
     done = reason("a dash made a hyphen" * (plain != text), "small letters made capitals" * (code != plain))
     is_day = column != "code" and LIKE_A_DAY.fullmatch(code)
@@ -297,7 +297,7 @@ def read_time(column: str, cell: Cell, text: str, way: Way) -> Value:
         raise Wrong("is a date, not a time")
     hour = int(said["hour"]) % 12 + 12 * (said["half"].lower() == "p") if "half" in said else int(said["hour"])
     time = f"{hour:02}:{said['minute'] or '00'}"
-    if "doubt" in said:
+    if "doubt" in said and files.RIGHT[column](time.encode()):
         raise Wrong(f"write {time} if that is meant")
     if column == "until" and (hour == 0 if "half" in said else time == "00:00" and cell.kind != "text"):
         raise Wrong("midnight? Write 24:00 as text if the hall is open until then")
