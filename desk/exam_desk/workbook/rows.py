@@ -79,13 +79,24 @@ class Table:
         elif self.kind == "entries" and self.job.way.is_command and is_called_list(self.sheet.name):
             self.mistake(None, None, "is called a list of entries to be withdrawn or reinstated: save it as CSV with "
                          "commas for `office withdraw --list FILE.csv`, or call it Entries if they are to be entered")
-        if min(self.sheet.rows) < row:
-            self.note(row, None, "is taken as the header; what stands above it is not read")
+        self.tell_above()
         if marks:
             self.note(row, min(self.marks), f"crosses below {marks} are read as {MARKED[self.kind]}")
         self.tell_names()
         self.tell_lacking()
         self.tell_columns()
+
+    def tell_above(self) -> None:
+        """What stands above the header is not read; a row of the table or another header there is a mistake."""
+        row, columns = self.header.row, self.header.columns
+        above = sorted((other, cells) for other, cells in self.sheet.rows.items() if other < row)
+        if above:
+            self.note(row, None, "is taken as the header; what stands above it is not read")
+        for other, cells in above:
+            is_row = len(columns) > 1 and all(place in cells and self.job.said(name, cells[place])
+                                              for name, [place, *_] in columns.items())
+            if is_row or self.begins_other(other, cells):
+                self.mistake(other, None, f"stands above the header in row {row}: put it below, or delete it", "above")
 
     def tell_names(self) -> None:
         """From which columns values are read, where a header has another word, or two could be one."""

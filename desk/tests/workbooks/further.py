@@ -167,6 +167,12 @@ case("dates-words-german", xlsx(sheet("Sessions", SESSIONS, ["S1", "Dienstag, 1.
      files={"sessions":["S1,2027-06-01,09:00", "S2,2027-06-02,09:00", "S3,2027-12-01,09:00", "S4,2027-10-04,09:00"]})
 case("dates-weekday-german-wrong", xlsx(sheet("Sessions", SESSIONS, ["S1", "Mittwoch, 1. Juni 2027", "09:00"])), 1,
      only=True, mistakes=[["Sessions!B2", "Tuesday"]])
+case("rows-above-the-header", xlsx(sheet("Halls", ["AULA", "Aula", "-"], ["GYM", "Gym", "quiet"], HALLS, ["LAB", "Lab", "-"])), 1, only=True,
+     mistakes=[["Halls!1", "above the header in row 3"], ["Halls!2", "above the header in row 3"]])
+case("table-above-a-larger-one", xlsx(sheet("Candidates", CANDIDATES[:2], ADA[:2], [], CANDIDATES, BO)), 1, only=True,
+     mistakes=[["Candidates!1", "above the header in row 4"]])
+case("titles-above-the-header", xlsx(sheet("Halls", ["HALLS", "as of May 2027"], [2027, None, "draft"], HALLS, ["LAB", "Lab", "-"])),
+     files={"halls": ["LAB,Lab,-"]}, told=[["Halls!3", "what stands above it is not read"]])
 case("code-like-day", xlsx(sheet("Halls", ["hall", "title", "features"], ["1MAR", "A", "-"]), sheet("Sessions",
      SESSIONS, ["1-MAR", "2027-06-01", "09:00"], ["MAR-27", "2027-06-02", "09:00"], ["3-okt", "2027-06-03",
      "09:00"])), files={"halls":["1MAR,A,-"], "sessions":["1-MAR,2027-06-01,09:00", "MAR-27,2027-06-02,09:00",
