@@ -32,7 +32,9 @@ CURES = {
 NO_CODE = "code ''"  # the mistakes on empty codes, which are counted and not shown
 EMPTY_ROW = "an empty row of the spreadsheet: delete it"
 LOST_ZEROS = re.compile(rb"([0-9]{1,7})(\.(?!000$)0+)?").fullmatch  # 1.000 is a thousand, too
-WRONG_LETTERS = re.compile("[ÂÃ][^!-~À-ÿ]|[ÄÅ][^ -~À-ÿ]|â€|\ufffd").search  # as UTF-8 looks in a Western encoding
+WRONG_LETTERS = re.compile(  # as UTF-8 looks in a Western encoding, and letters of one of these in another
+    "[ÂÃ][^!-~À-ÿ]|[ÄÅ][^ -~À-ÿ]|â€|\ufffd|[√├][^ -~]|[a-z][À-ÖØ-ÞŒŠŸŽ]|[A-Za-z]([§†‡‰ˆ˜¸¿]|[À-ÖØ-ÞŒŠŸŽ][a-z])").search
+AN_ERROR = re.compile(r"##+|#[¡¿]?[^\W\d][\w/]*[!?]?|Err:[0-9]+|(?i:null|nan|n/a)").fullmatch
 # But made by a word processor. The joiners \u200c and \u200d belong to names in Persian, Hindi and other languages.
 NOT_TYPED = re.compile("^ | $|[\u00a0\u00ad\u2007\u200b\u202f\u2060\ufeff“”„‟‘’‚‛]").search
 LIKE_A_NUMBER = re.compile(rb"[0-9]+E[0-9]+|[1-9][0-9]?0{4,}").fullmatch
@@ -157,8 +159,14 @@ def note_on(column: str, field: bytes) -> str:
     if column in CODES and LIKE_A_NUMBER(field):
         return "may be what a spreadsheet made of a code such as 1E5, or will make of it"
     text = field.decode("utf-8", "replace") if column in NAMES else ""
+    if column == "minutes" and len(field) == 1:
+        return "few minutes for a paper; 2 hours are 120"
+    if (column, field) == ("extra", b"1"):
+        return "is 1 percent; 100 percent is 100"
     if WRONG_LETTERS(text):
         return "looks like letters that were read in a wrong encoding"
+    if AN_ERROR(text):
+        return "looks like an error of a spreadsheet or of an export"
     is_odd = NOT_TYPED(text) or words.plain(text) != text
     return "has a space at an end, or a sign that no keyboard writes: is it meant?" if is_odd else ""
 

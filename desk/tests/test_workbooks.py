@@ -316,7 +316,7 @@ class Values(unittest.TestCase):
                 ("needs", "", "-", "empty is none", ""), ("needs", "None", "-", "none", ""), ("needs", "-", "-", "", ""),
                 ("needs", "Quiet, screen", "screen+quiet", "in the office's words and order", ""), ("needs", "screen+quiet", "screen+quiet", "", ""),
                 ("extra", "", "0", "empty is none", ""), ("extra", "None", "0", "none", ""), ("extra", "25 %", "25", "percent", ""),
-                ("extra", "1", "1", "", "is 1 percent; 100 percent is 100"), ("extra", "0,25", "25 percent? Write the percent as a whole number"),
+                ("extra", "1", "1", "", ""), ("extra", "0,25", "25 percent? Write the percent as a whole number"),
                 ("minutes", "090", "90", "zeros in front taken away", ""), ("minutes", "90", "90", "", ""), ("minutes", "90 min", "90", "minutes", ""),
                 ("minutes", "1 h 30", "90", "1 h 30 min", ""), ("start", "00:00", "00:00", "", ""), ("until", "00:00", "00:00", "", of_a_hall),
                 ("date", "12/12/2027", "2027-12-12", "Sunday, 12 December 2027", ""),

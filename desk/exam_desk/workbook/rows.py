@@ -320,8 +320,10 @@ class Table:
         places = self.header.columns.get(name, [])
         if not places:
             return self.fixed.get(name, "")
-        filled = [place for place in places if here[place]] or places[:1]
-        return " ".join(self.read_one(row, name, here, place) for place in filled)
+        filled = [place for place in places if here[place]]
+        for place in [place for place in places if filled and place not in filled]:
+            self.note(row, place, f"is empty, so {name} is what stands beside it alone", f"{name} alone")
+        return " ".join(self.read_one(row, name, here, place) for place in filled or places[:1])
 
     def read_one(self, row: int, name: str, here: Row, place: int) -> str:
         """The field of one cell. A time is taken beside a day if that is the day of the session, or no day."""

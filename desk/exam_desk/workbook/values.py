@@ -324,7 +324,7 @@ def read_whole(column: str, cell: Cell, text: str, way: Way) -> Value:
     if column == "minutes" and (match := HOURS.fullmatch(number)):
         hours, minutes = int(match[1]), int(match[2] or match[3] or 0)
         return Value(str(60 * hours + minutes), f"{hours} h {minutes} min")
-    return Value(number, done, "is 1 percent; 100 percent is 100" * ((column, number) == ("extra", "1")))
+    return Value(number, done)
 
 
 READERS: dict[str, tuple[Callable[[str, Cell, str, Way], Value], str]] = {  # with the kinds of cells that it takes

@@ -173,6 +173,9 @@ case("table-above-a-larger-one", xlsx(sheet("Candidates", CANDIDATES[:2], ADA[:2
      mistakes=[["Candidates!1", "above the header in row 4"]])
 case("titles-above-the-header", xlsx(sheet("Halls", ["HALLS", "as of May 2027"], [2027, None, "draft"], HALLS, ["LAB", "Lab", "-"])),
      files={"halls": ["LAB,Lab,-"]}, told=[["Halls!3", "what stands above it is not read"]])
+case("csv-errors-and-hours", b"paper,title,session,minutes,requires\nMA-1,#N/A,S1,2,-\nMA-2,Maths,S1,90,-\n", suffix="csv",
+     files={"papers": ["MA-1,#N/A,S1,2,-", "MA-2,Maths,S1,90,-"]},
+     told=[["'further-csv-errors-and-hours'!B2", "an error"], ["'further-csv-errors-and-hours'!D2", "hours"]])
 case("code-like-day", xlsx(sheet("Halls", ["hall", "title", "features"], ["1MAR", "A", "-"]), sheet("Sessions",
      SESSIONS, ["1-MAR", "2027-06-01", "09:00"], ["MAR-27", "2027-06-02", "09:00"], ["3-okt", "2027-06-03",
      "09:00"])), files={"halls":["1MAR,A,-"], "sessions":["1-MAR,2027-06-01,09:00", "MAR-27,2027-06-02,09:00",
