@@ -78,7 +78,8 @@ class Table:
             self.note(None, None, f"bears the name of a paper: whom it lists is entered for {self.paper}")
         elif self.kind == "entries" and self.job.way.is_command and is_called_list(self.sheet.name):
             self.mistake(None, None, "is called a list of entries to be withdrawn or reinstated: save it as CSV with "
-                         "commas for `office withdraw --list FILE.csv`, or call it Entries if they are to be entered")
+                         "the header number,paper for `office withdraw --list FILE.csv`, or call it Entries if they are "
+                         "to be entered")
         self.tell_above()
         if marks:
             self.note(row, min(self.marks), f"crosses below {marks} are read as {MARKED[self.kind]}")
