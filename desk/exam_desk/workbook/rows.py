@@ -113,9 +113,9 @@ class Table:
             self.note(self.header.row, None, text)
         for name, places in self.header.twice.items():
             if len(places) > 1:
-                columns = ", ".join(map(letters_of, places))
-                self.mistake(self.header.row, places[1], f"columns {columns} could all be {name}: keep one header, or "
-                             "say which in a file of columns")
+                columns, heads = ", ".join(map(letters_of, places)), {folded(self.head[place].text) for place in places}
+                cure = "or say which in a file of columns" if len(heads) > 1 else "and call the others otherwise"
+                self.mistake(self.header.row, places[1], f"columns {columns} could all be {name}: keep one header, {cure}")
 
     def tell_lacking(self) -> None:
         """The columns of the kind that the sheet does not have."""
