@@ -37,7 +37,11 @@ WRONG_LETTERS = re.compile(  # as UTF-8 looks in a Western encoding, and letters
 AN_ERROR = re.compile(r"##+|#[¡¿]?[^\W\d][\w/]*[!?]?|Err:[0-9]+|(?i:null|nan|n/a)").fullmatch
 # But made by a word processor. The joiners \u200c and \u200d belong to names in Persian, Hindi and other languages.
 NOT_TYPED = re.compile("^ | $|[\u00a0\u00ad\u2007\u200b\u202f\u2060\ufeff“”„‟‘’‚‛]").search
-LIKE_A_NUMBER = re.compile(rb"[0-9]+E[0-9]+|[1-9][0-9]?0{4,}").fullmatch
+MONTH = "JAN|FEB|MAR|APR|MAY|MAI|JUN|JUL|AUG|SEP|OCT|OKT|NOV|DEC|DEZ"
+LIKE_OTHERS = re.compile(f"[0-9]+E[0-9]+|[1-9][0-9]?0{{4,}}|[0-9]{{1,2}}-({MONTH})|({MONTH})-[0-9]{{2}}".encode()).fullmatch
+SELDOM = {("extra", b"1"): "is 1 percent; 100 percent is 100",  # by column and value
+          ("until", b"00:00"): "a hall that is open until 00:00 suits nobody; midnight is 24:00",
+          **{("minutes", b"%d" % number): "few minutes for a paper; 2 hours are 120" for number in range(1, 10)}}
 
 
 class Cure(NamedTuple):
@@ -156,25 +160,29 @@ def needed(column: str, field: bytes) -> str:
 
 def note_on(column: str, field: bytes) -> str:
     """What only a human eye can judge in a value of a right form; "" where nothing is to be said."""
-    if column in CODES and LIKE_A_NUMBER(field):
-        return "may be what a spreadsheet made of a code such as 1E5, or will make of it"
+    if column in CODES and LIKE_OTHERS(field):
+        return "may be what a spreadsheet made of a code such as 1E5 or MAR-1, or will make of it"
     text = field.decode("utf-8", "replace") if column in NAMES else ""
-    if column == "minutes" and len(field) == 1:
-        return "few minutes for a paper; 2 hours are 120"
-    if (column, field) == ("extra", b"1"):
-        return "is 1 percent; 100 percent is 100"
     if WRONG_LETTERS(text):
         return "looks like letters that were read in a wrong encoding"
     if AN_ERROR(text):
         return "looks like an error of a spreadsheet or of an export"
-    is_odd = NOT_TYPED(text) or words.plain(text) != text
-    return "has a space at an end, or a sign that no keyboard writes: is it meant?" if is_odd else ""
+    if NOT_TYPED(text) or words.plain(text) != text:
+        return "has a space at an end, or a sign that no keyboard writes: is it meant?"
+    return SELDOM.get((column, field), "")
 
 
 def looked_through(kind: str, text: bytes, known: Known, most: int = MOST_COUNTED) -> tuple[Found, Found]:
     """The mistakes of a file and the notes on it, so many of each column; what it brings is known afterwards."""
-    file = File(kind, known, most)
-    return file.looked_through(file.rows(text))
+    file, rows = File(kind, known, most), files.records(text)
+    if len(text) > files.MOST_BYTES:
+        file.wrong.add(1, "file", f"more than {files.MOST_BYTES} bytes: split it")
+    if not files.is_header(kind, next(rows, None)):
+        line = files.shown(text.removeprefix(files.BOM).lstrip()[:300].partition(b"\n")[0].rstrip())
+        file.wrong.add(1, "file", f"the first line must be {','.join(file.header)}, and is {line}; `office mend` reads "
+                       "files with other headers, commas or letters")
+        rows = iter(())
+    return file.looked_through(rows)
 
 
 class File:
@@ -198,18 +206,6 @@ class File:
             self.known.take(self.kind, [record.fields for record in self.first.values()])
             self.note_together()
         return self.wrong, self.notes
-
-    def rows(self, text: bytes) -> Iterator[files.Record]:
-        """The records after the header; none where that is wrong."""
-        if len(text) > files.MOST_BYTES:
-            self.wrong.add(1, "file", f"more than {files.MOST_BYTES} bytes: split it")
-        rows = files.records(text)
-        if files.is_header(self.kind, next(rows, None)):
-            return rows
-        line = files.shown(text.removeprefix(files.BOM).lstrip()[:300].partition(b"\n")[0].rstrip())
-        self.wrong.add(1, "file", f"the first line must be {','.join(self.header)}, and is {line}; `office mend` reads "
-                       "files with other headers, commas or letters")
-        return iter(())
 
     def look_at(self, rows: Iterable[files.Record]) -> None:
         """Looks at all rows, unless too many are wrong."""

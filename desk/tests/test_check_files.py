@@ -322,7 +322,7 @@ class Words(unittest.TestCase):
         self.assertEqual(notes, [
             "looks like letters that were read in a wrong encoding",
             "2 candidates have this access code", "2 candidates have this access code", "the same as line 3; it counts once",
-            "may be what a spreadsheet made of a code such as 1E5, or will make of it",
+            "may be what a spreadsheet made of a code such as 1E5 or MAR-1, or will make of it",
             "has a space at an end, or a sign that no keyboard writes: is it meant?"])
 
     def test_names_that_nobody_typed_so(self):
@@ -344,7 +344,8 @@ class Words(unittest.TestCase):
         """Percent as a part of one, and hours: whoever reads the files sees a number of the right form."""
         few = "few minutes for a paper; 2 hours are 120"
         for column, text, said in (("extra", "1", "is 1 percent; 100 percent is 100"), ("extra", "10", ""), ("extra", "0", ""),
-                                   ("minutes", "2", few), ("minutes", "9", few), ("minutes", "10", ""), ("desks", "2", "")):
+                                   ("until", "00:00", "a hall that is open until 00:00 suits nobody; midnight is 24:00"),
+                                   ("until", "24:00", ""), ("start", "00:00", ""), ("minutes", "2", few), ("minutes", "9", few), ("minutes", "10", ""), ("desks", "2", "")):
             self.assertEqual(said, mistakes.note_on(column, text.encode()), (column, text))
 
     def test_what_is_wrong_with_a_name(self):

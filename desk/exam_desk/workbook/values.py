@@ -36,8 +36,6 @@ MONTHS = {name: place for place, names in enumerate(
      "dec december dez dezember"], 1) for name in names.split()}
 WEEKDAYS = ["monday montag", "tuesday dienstag", "wednesday mittwoch", "thursday donnerstag", "friday freitag",
             "saturday samstag", "sunday sonntag"]
-SHORT_MONTH = "|".join(name for name in MONTHS if len(name) == 3)
-LIKE_A_DAY = re.compile(f"([0-9]{{1,2}}-({SHORT_MONTH})|({SHORT_MONTH})-[0-9]{{2}})", re.I)
 DATES = [re.compile(form) for form in (  # the first form that a text has counts
     r"(?P<year>[0-9]{4})-(?P<month>[0-9]{2})-(?P<day>[0-9]{2})(?:[T ](?P<time>[0-9:.]*)Z?)?",
     r"(?P<year>[0-9]{4})(?P<mark>[/.])(?P<month>[0-9]{1,2})(?P=mark)(?P<day>[0-9]{1,2})",
@@ -196,9 +194,7 @@ def read_code(column: str, cell: Cell, text: str, way: Way) -> Value:
     joined = re.sub(r"\s+", "-" if column in ("session", "paper") else "", code)
     if joined != code and files.RIGHT[column](files.encoded(joined)):
         raise Wrong(f"a space inside: write {joined} if that is meant ({mistakes.CURES[column]})")
-    done = reason("a dash made a hyphen" * (plain != text), "small letters made capitals" * (code != plain))
-    is_day = column != "code" and LIKE_A_DAY.fullmatch(code)
-    return Value(code, done, "looks like what a spreadsheet makes of a code such as MAR-1" if is_day else "")
+    return Value(code, reason("a dash made a hyphen" * (plain != text), "small letters made capitals" * (code != plain)))
 
 
 def read_name(column: str, cell: Cell, text: str, way: Way) -> Value:
@@ -301,10 +297,7 @@ def read_time(column: str, cell: Cell, text: str, way: Way) -> Value:
         raise Wrong(f"write {time} if that is meant")
     if column == "until" and (hour == 0 if "half" in said else time == "00:00" and cell.kind != "text"):
         raise Wrong("midnight? Write 24:00 as text if the hall is open until then")
-    if "day" in said:
-        return Value(time, "the time of the cell", day=said["day"])
-    is_never = column == "until" and time == "00:00"
-    return Value(time, "", "a hall that is open until 00:00 suits nobody; midnight is 24:00" * is_never)
+    return Value(time, "the time of the cell" * ("day" in said), day=said.get("day", ""))
 
 
 def read_whole(column: str, cell: Cell, text: str, way: Way) -> Value:
