@@ -107,11 +107,11 @@ def backup(parser: command.Parser) -> None:
     office check-files .
 
 It reads sessions.csv, papers.csv, halls.csv, openings.csv, candidates.csv, arrangements.csv and entries.csv, those that
-are there, and the office's file if there is one. Each mistake is a line: file, line, value, cure. What the program
-takes, though it may be wrong, is a note. Candidates without an access code are counted in one line. Where nothing is
-wrong it imports them into a private copy of the office, and notes who would lose a desk, miss a paper, sit otherwise or
-be in two sessions at one time. The status is 1 if `office import` would refuse a file. `office mend` takes back most of
-what a spreadsheet broke.
+are there (entries-2.csv goes on where entries.csv ends), and the office's file if there is one. Each mistake is a line:
+file, line, value, cure. What the program takes, though it may be wrong, is a note. Candidates without an access code
+are counted in one line. Where nothing is wrong it imports them into a private copy of the office, and notes who would
+lose a desk, miss a paper, sit otherwise or be in two sessions at one time. The status is 1 if `office import` would
+refuse a file. `office mend` takes back most of what a spreadsheet broke.
 """)
 def check_files(parser: command.Parser) -> bool:
     from exam_desk import lists, mistakes

@@ -6,6 +6,7 @@ import contextlib
 import csv
 import datetime
 import io
+import itertools
 import os
 import re
 import select
@@ -58,6 +59,13 @@ class Record(NamedTuple):
     line: int  # of the file, where it begins
     fields: tuple[bytes, ...]
     closed: bool  # no quote is left open
+
+
+def parts_of(names: Collection[str]) -> dict[str, str]:
+    """Of the import files among these names, in the order of an import, the kinds: entries-2.csv goes on where
+    entries.csv ends, and so does the next number."""
+    return {name: kind for kind in HEADERS for name in itertools.takewhile(names.__contains__, itertools.chain(
+        [f"{kind}.csv"], map(f"{kind}-{{}}.csv".format, itertools.count(2))))}
 
 
 def read(path: str, tell: Callable[[str], None] = lambda text: None) -> bytes:
@@ -114,6 +122,11 @@ def records(text: bytes, comma: bytes = b",") -> Iterator[Record]:
         line = reader.line_num + 1
 
 
+def comma_of(text: bytes) -> bytes:
+    """What parts the columns of a file that is no import: a semicolon, if the first line has one."""
+    return b";" if b";" in re.split(b"[\r\n]", text, maxsplit=1)[0] else b","
+
+
 def below_header(text: bytes, path: str, header: Iterable[str], comma: bytes = b",") -> Iterator[Record]:
     """The records after the header. Raises `Trouble` where the file is too long, is no UTF-8, or has another header."""
     if len(text) > MOST_BYTES:
@@ -132,7 +145,7 @@ def texts_by_number(content: bytes, path: str, column: str, most: int,
     a semicolon. Zeros before a number may be missing. `Trouble` where it is no such file, a text is too long, or a
     number is not a known one."""
     found: dict[str, str] = {}
-    for row in below_header(content, path, ["number", column], b";" if b";" in content.partition(b"\n")[0] else b","):
+    for row in below_header(content, path, ["number", column], comma_of(content)):
         wrong, fields = "", [*map(bytes.decode, row.fields)]
         fields[0] = fields[0].zfill(7) if row.fields[0].isdigit() else fields[0]
         if not row.closed or len(fields) != 2:

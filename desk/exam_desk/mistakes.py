@@ -32,10 +32,16 @@ CURES = {
 NO_CODE = "code ''"  # the mistakes on empty codes, which are counted and not shown
 EMPTY_ROW = "an empty row of the spreadsheet: delete it"
 LOST_ZEROS = re.compile(rb"([0-9]{1,7})(\.(?!000$)0+)?").fullmatch  # 1.000 is a thousand, too
-WRONG_LETTERS = re.compile("[ÂÃ][^!-~À-ÿ]|[ÄÅ][^ -~À-ÿ]|â€|\ufffd").search  # as UTF-8 looks in a Western encoding
+WRONG_LETTERS = re.compile(  # as UTF-8 looks in a Western encoding, and letters of one of these in another
+    "[ÂÃ][^!-~À-ÿ]|[ÄÅ][^ -~À-ÿ]|â€|\ufffd|[√├][^ -~]|[a-z][À-ÖØ-ÞŒŠŸŽ]|[A-Za-z]([§†‡‰ˆ˜¸¿]|[À-ÖØ-ÞŒŠŸŽ][a-z])").search
+AN_ERROR = re.compile(r"##+|#[¡¿]?[^\W\d][\w/]*[!?]?|Err:[0-9]+|(?i:null|nan|n/a)").fullmatch
 # But made by a word processor. The joiners \u200c and \u200d belong to names in Persian, Hindi and other languages.
 NOT_TYPED = re.compile("^ | $|[\u00a0\u00ad\u2007\u200b\u202f\u2060\ufeff“”„‟‘’‚‛]").search
-LIKE_A_NUMBER = re.compile(rb"[0-9]+E[0-9]+|[1-9][0-9]?0{4,}").fullmatch
+MONTH = "JAN|FEB|MAR|APR|MAY|MAI|JUN|JUL|AUG|SEP|OCT|OKT|NOV|DEC|DEZ"
+LIKE_OTHERS = re.compile(f"[0-9]+E[0-9]+|[1-9][0-9]?0{{4,}}|[0-9]{{1,2}}-({MONTH})|({MONTH})-[0-9]{{2}}".encode()).fullmatch
+SELDOM = {("extra", b"1"): "is 1 percent; 100 percent is 100",  # by column and value
+          ("until", b"00:00"): "a hall that is open until 00:00 suits nobody; midnight is 24:00",
+          **{("minutes", b"%d" % number): "few minutes for a paper; 2 hours are 120" for number in range(1, 10)}}
 
 
 class Cure(NamedTuple):
@@ -154,19 +160,29 @@ def needed(column: str, field: bytes) -> str:
 
 def note_on(column: str, field: bytes) -> str:
     """What only a human eye can judge in a value of a right form; "" where nothing is to be said."""
-    if column in CODES and LIKE_A_NUMBER(field):
-        return "may be what a spreadsheet made of a code such as 1E5, or will make of it"
+    if column in CODES and LIKE_OTHERS(field):
+        return "may be what a spreadsheet made of a code such as 1E5 or MAR-1, or will make of it"
     text = field.decode("utf-8", "replace") if column in NAMES else ""
     if WRONG_LETTERS(text):
         return "looks like letters that were read in a wrong encoding"
-    is_odd = NOT_TYPED(text) or words.plain(text) != text
-    return "has a space at an end, or a sign that no keyboard writes: is it meant?" if is_odd else ""
+    if AN_ERROR(text):
+        return "looks like an error of a spreadsheet or of an export"
+    if NOT_TYPED(text) or words.plain(text) != text:
+        return "has a space at an end, or a sign that no keyboard writes: is it meant?"
+    return SELDOM.get((column, field), "")
 
 
 def looked_through(kind: str, text: bytes, known: Known, most: int = MOST_COUNTED) -> tuple[Found, Found]:
     """The mistakes of a file and the notes on it, so many of each column; what it brings is known afterwards."""
-    file = File(kind, known, most)
-    return file.looked_through(file.rows(text))
+    file, rows = File(kind, known, most), files.records(text)
+    if len(text) > files.MOST_BYTES:
+        file.wrong.add(1, "file", f"more than {files.MOST_BYTES} bytes: split it")
+    if not files.is_header(kind, next(rows, None)):
+        line = files.shown(text.removeprefix(files.BOM).lstrip()[:300].partition(b"\n")[0].rstrip())
+        file.wrong.add(1, "file", f"the first line must be {','.join(file.header)}, and is {line}; `office mend` reads "
+                       "files with other headers, commas or letters")
+        rows = iter(())
+    return file.looked_through(rows)
 
 
 class File:
@@ -190,18 +206,6 @@ class File:
             self.known.take(self.kind, [record.fields for record in self.first.values()])
             self.note_together()
         return self.wrong, self.notes
-
-    def rows(self, text: bytes) -> Iterator[files.Record]:
-        """The records after the header; none where that is wrong."""
-        if len(text) > files.MOST_BYTES:
-            self.wrong.add(1, "file", f"more than {files.MOST_BYTES} bytes: split it")
-        rows = files.records(text)
-        if files.is_header(self.kind, next(rows, None)):
-            return rows
-        line = files.shown(text.removeprefix(files.BOM).lstrip()[:300].partition(b"\n")[0].rstrip())
-        self.wrong.add(1, "file", f"the first line must be {','.join(self.header)}, and is {line}; `office mend` reads "
-                       "files with other headers, commas or letters")
-        return iter(())
 
     def look_at(self, rows: Iterable[files.Record]) -> None:
         """Looks at all rows, unless too many are wrong."""
@@ -302,13 +306,13 @@ def check_folder(office: Office, folder: str) -> tuple[list[str], Counter[str]]:
     before it bring. Gives the lines, and how many files, mistakes, empty codes and notes there are. Raises `Trouble` at
     what is no file."""
     names, known, lines, counts = sorted(os.listdir(folder)), office_knows(office), list[str](), Counter[str]()
-    texts = {kind: files.read(os.path.join(folder, f"{kind}.csv")) for kind in files.HEADERS if f"{kind}.csv" in names}
-    for kind, text in texts.items():
+    texts = {name: (kind, files.read(os.path.join(folder, name))) for name, kind in files.parts_of(names).items()}
+    for name, (kind, text) in texts.items():
         wrong, notes = looked_through(kind, text, known, MOST_SHOWN)
-        lines += [*lines_on(f"{kind}.csv", wrong, ""), *lines_on(f"{kind}.csv", notes, "NOTE: ")]
+        lines += [*lines_on(name, wrong, ""), *lines_on(name, notes, "NOTE: ")]
         counts.update(files=1, mistakes=wrong.count, codes=wrong.counts[NO_CODE], notes=notes.count)
     for name in names:
-        if name.lower().endswith(files.TABLES) and name.removesuffix(".csv") not in texts:
+        if name.lower().endswith(files.TABLES) and name not in texts:
             why = "none of the seven names, so it is not looked at" if name.lower().endswith(".csv") else \
                 "a workbook: `office read` makes the files of it"
             lines.append(f"NOTE: {name} is {why}")
@@ -319,9 +323,10 @@ def check_folder(office: Office, folder: str) -> tuple[list[str], Counter[str]]:
     return lines, counts
 
 
-def would_do(office: Office, texts: Mapping[str, bytes]) -> tuple[list[str], list[str]]:
-    """What the program refuses of imports into a private copy of the office, and what they would do to candidates."""
-    steps = [Step(("import", kind, f"{kind}.csv"), text) for kind, text in texts.items()]
+def would_do(office: Office, texts: Mapping[str, tuple[str, bytes]]) -> tuple[list[str], list[str]]:
+    """What the program refuses of imports into a private copy of the office, and what they would do to candidates. The
+    files have their kinds and contents by their names."""
+    steps = [Step(("import", kind, name), text) for name, (kind, text) in texts.items()]
     with changing.rehearse(office, steps) as rehearsal:
         if refused := changing.refused_of(rehearsal.answers):
             means = "; ".join(refused.explained()) or refused.first_line()

@@ -17,7 +17,7 @@ from exam_desk import backups, files, mistakes
 from exam_desk.office import Trouble
 from exam_desk.workbook import tables
 from exam_desk.workbook.cells import MOST_CELLS, MOST_FILE, NO_WORKBOOK, Book
-from exam_desk.workbook.headers import Given, folded, is_called_list, read_columns
+from exam_desk.workbook.headers import Given, is_called_list, read_columns
 from exam_desk.workbook.opening import book_of
 from exam_desk.workbook.reading import read_book
 from exam_desk.workbook.values import Way
@@ -118,7 +118,7 @@ def take(upload: Upload, name: str, content: bytes, most: int) -> None:
          text("another file says already what headers mean: bring one alone")),
         (content.startswith(backups.OFFICE), text("it is an office: the page Office takes a backup back")),
         (len(content) > most, text("it has more than {most} bytes: split it", most=most)),
-        ((name, content) in upload.books, text("it is there twice, and is taken once"))]
+        ((name[-MOST_NAME:], content) in upload.books, text("it is there twice, and is taken once"))]
     if why := next((why for is_so, why in reasons if is_so), None):
         upload.note(name, why)
     elif is_columns:
@@ -136,14 +136,12 @@ def read_books(upload: Upload) -> None:
     are. Where no line is a mistake their rows are taken as files, too."""
     if not (book := together(upload)).sheets:
         return
-    known, there = mistakes.Known(view().reading.rows), {folded(sheet.name) for sheet in book.sheets}
+    known = mistakes.Known(view().reading.rows)
     for kind, content in upload.texts.items():
         known.take(kind, [row.fields for row in below_header(content)
                           if len(row.fields) == len(files.HEADERS[kind]) and all(map(files.is_utf_8, row.fields))])
     names = [sheet.name for sheet in book.sheets] if upload.hidden == "take" else None
-    given = {kind: says for kind, says in (upload.given or {}).items()
-             if len(upload.books) == 1 or not says.sheet or folded(says.sheet) in there}
-    job = tables.Job(known, upload.way, given, names, hidden=upload.hidden)
+    job = tables.Job(known, upload.way, upload.given or {}, names, hidden=upload.hidden)
     try:
         take_rows(upload, ", ".join(name for name, _ in upload.books), book.form, read_book(book, job))
     except Trouble as trouble:
@@ -169,7 +167,8 @@ def together(upload: Upload) -> Book:
         book = name if called.count(name) == 1 else f"{number}. {name}"
         sheets = [replace(each, book=book) if each.name in names else each for each in found.sheets]
         notes = [f"{name}: {note}" for note in found.notes]
-        whole = Book(found.form, [*whole.sheets, *sheets], [*whole.notes, *notes])
+        form = whole.form if found.form == "csv" else found.form
+        whole = Book(form, [*whole.sheets, *sheets], [*whole.notes, *notes])
     return whole
 
 

@@ -61,7 +61,7 @@ OF_FILES = re.compile(r"^it (has|is|takes|asks|holds) .* |^its (XML|part)|MB com
                       r"^the sheet \{0} holds|^\{0} holds no office|made \{0};|seconds are over|with the day")
 FORMED = [*filter(OF_FILES.search, itertools.chain(*map(sentences, [
     cells, child, ods, opening, xlsx, snapshot, turns, lodging]))), cells.OPEN_AND_SAVE,
-          *mistakes.CURES.values(), mistakes.EMPTY_ROW, files.NO_UTF_8, *(
+          *mistakes.CURES.values(), *mistakes.SELDOM.values(), mistakes.EMPTY_ROW, files.NO_UTF_8, *(
     each for module in (mistakes, refusals) for each in sentences(module)
           if re.search(r"[a-z]{2,}\b.* |.* .*\b[a-z]{2,}", each) and not OF_COMMANDS.search(each)),
           *filter(OF_KEEP.search, sentences(keeping)), "Address already in use",

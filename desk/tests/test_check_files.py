@@ -322,7 +322,7 @@ class Words(unittest.TestCase):
         self.assertEqual(notes, [
             "looks like letters that were read in a wrong encoding",
             "2 candidates have this access code", "2 candidates have this access code", "the same as line 3; it counts once",
-            "may be what a spreadsheet made of a code such as 1E5, or will make of it",
+            "may be what a spreadsheet made of a code such as 1E5 or MAR-1, or will make of it",
             "has a space at an end, or a sign that no keyboard writes: is it meant?"])
 
     def test_names_that_nobody_typed_so(self):
@@ -332,9 +332,21 @@ class Words(unittest.TestCase):
         self.assertEqual(mistakes.note_on("name", "علی\u200cرضا".encode()), "")
         for text in "FranÃ§ois", "Ã Bo", "Ã\u00a0", "Â°C", "Oâ€™Neil", "ÅŸahin", "MiÅ‚osz", "GÄ™sior", "Å\u0081", "A\ufffdB":
             self.assertEqual("looks like letters that were read in a wrong encoding", mistakes.note_on("name", text.encode()), text)
-        for text in "O'Neil", "Zoë Ångström", "Å i Lofoten", "JOÃO", "PÄÄSKYNEN", "ÅÄÖ", "Ada  Lin", "\u05d0\u05d1", "Â", "a-b. (c)":
+        for text in "RenŽ", "JŸrgen", "Ren√©", "M√ºller", "Ren├®", "M¸ller", "RenÈ", "Weiz§cker":  # Macintosh, DOS
+            self.assertEqual("looks like letters that were read in a wrong encoding", mistakes.note_on("name", text.encode()), text)
+        for text in "#N/A", "#NV", "#REF!", "#DIV/0!", "#BEZUG!", "#NAME?", "#¡VALOR!", "########", "Err:502", "NULL", "nan", "n/a":
+            self.assertEqual("looks like an error of a spreadsheet or of an export", mistakes.note_on("name", text.encode()), text)
+        for text in "#1", "No 1", "Null, Ada", "Nan Li", "N. A.", "O'Neil", "Zoë Ångström", "Å i Lofoten", "JOÃO", "PÄÄSKYNEN", "ÅÄÖ", "Ada  Lin", "\u05d0\u05d1", "Â", "a-b. (c)":
             self.assertEqual("", mistakes.note_on("name", text.encode()), text)
         self.assertEqual("", mistakes.note_on("date", b"2027-06-07 "))
+
+    def test_a_number_that_may_count_something_else(self):
+        """Percent as a part of one, and hours: whoever reads the files sees a number of the right form."""
+        few = "few minutes for a paper; 2 hours are 120"
+        for column, text, said in (("extra", "1", "is 1 percent; 100 percent is 100"), ("extra", "10", ""), ("extra", "0", ""),
+                                   ("until", "00:00", "a hall that is open until 00:00 suits nobody; midnight is 24:00"),
+                                   ("until", "24:00", ""), ("start", "00:00", ""), ("minutes", "2", few), ("minutes", "9", few), ("minutes", "10", ""), ("desks", "2", "")):
+            self.assertEqual(said, mistakes.note_on(column, text.encode()), (column, text))
 
     def test_what_is_wrong_with_a_name(self):
         for value, said in ((b"A\tB", "it holds a line end or another control character"),

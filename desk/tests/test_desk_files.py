@@ -450,7 +450,14 @@ class TestFiles(Uploads):
         self.assertIn("No mistake", self.browser.words(page))  # each says of its own workbook alone
         self.assertIn('"R20","Room","-"', self.browser.ask("GET", page + "/halls.csv")[1])
         words = self.browser.words(self.upload(("s.xlsx", pupils), ("columns.toml", more)))
-        self.assertIn("there is no sheet Rooms here; there are: Pupils", words)  # it comes alone, so it should have it
+        self.assertIn("there is no sheet Rooms here; there are: Pupils", words)
+        others = [("halls of 2026.csv", b"hall;title;features\nR21;Room;-\n"),
+                  ("t.xlsx", workbook({"Halls": [["hall", "title", "features"], ["R21", "Room", "-"]]}))]
+        for found in [("s.xlsx", pupils), others[0]], [others[0], ("s.xlsx", pupils)], [("s.xlsx", pupils), others[1]]:
+            words = self.browser.words(self.upload(*found, ("columns.toml", more)))
+            self.assertIn("there is no sheet Rooms here; there are: ", words)  # and no other is taken in its place
+        words = self.browser.words(self.upload(*2 * [(90 * "x" + ".xlsx", workbook({"Halls": [["hall", "title", "features"], ["R21", "Room", "-"]]}))]))
+        self.assertIn("it is there twice, and is taken once", words)
         for wrong, said in ((b"[pupils]\n", "pupils is none of the seven kinds"), (b"x = " + b"[" * 9999, "recursion"),
                             (b"\xff", "its letters are no UTF-8: save it as UTF-8")):
             _, text = self.browser.send("/files", "/files", "files", export, ("columns.toml", wrong), status=422)

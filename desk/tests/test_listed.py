@@ -71,6 +71,12 @@ class Listed(test_changing.Changing):
         self.assertEqual(done.stdout.split("\n")[1], "1 of 1 row done; `office back` lists the copy that takes all of it back")
         self.assertNotIn("NOTE", done.stderr)
 
+    def test_a_list_as_a_spreadsheet_writes_it(self):
+        """With semicolons where commas part decimals, and with the line ends of a Macintosh."""
+        for command, text in ("withdraw", "\ufeffnumber;paper\r\n1000;MA-1\r\n"), ("reinstate", "number;paper\r0001000;MA-1\r"):
+            self.assertIn("1 of 1 row done", self.run_list(text, command).stdout)
+        self.assertEqual(self.state(), self.before)
+
     def test_a_refusal_in_the_middle(self):
         self.office("withdraw", "0001000", "MA-1")
         done = self.run_list("\ufeffnumber,paper\r\n\"0001000\",MA-1\r\n\r\n0001017,CS-1\r\n" + "0001017,MA-1\r\n" * 2)
@@ -98,13 +104,14 @@ class Listed(test_changing.Changing):
                 (GOOD + "0009999,MA-1\n0001000,XX-1\n", "line 4: number '0009999': ", "line 5: paper 'XX-1': "),
                 (GOOD + "10x0,MA-1\n", "line 4: number '10x0': "), (GOOD + "9999,MA-1\n", "line 4: number '0009999': "),
                 (GOOD + "=1+1,<b>\u202e\n", "line 4: number '=1+1': ", "line 4: paper '<b>?': "),
-                (GOOD + "0001000\n", "line 4: row: 1 in place of 2 fields"), (GOOD + '"0001000,MA-1\n', "a quote is not closed"),
-                ("paper,number\nMA-1,0001000\n", "the first line must be number,paper"), ("", "and is ''"),
-                (GOOD.replace(",", ";"), "and is 'number;paper'"), (b"number,paper\n\xff\x00,MA-1\n", "line 2: number ")):
+                (GOOD + "0001000\n", "line 4: row: 1 in place of 2 fields"), (GOOD + '"0001000,MA-1\n', "a quote is not closed")):
             done = self.run_list(text)
             self.assertEqual((done.returncode, done.stdout), (1, ""), text)
             for words in (*said, "office: nothing is changed\n"):
                 self.assertIn(words, done.stderr)
+        for text, why in (("paper,number\nMA-1,0001000\n", "line 1 must be: number,paper"), ("", "line 1 must be: number,paper"),
+                          (b"number,paper\n\xff\x00,MA-1\n", "line 2: the letters are no UTF-8: save the file as CSV UTF-8; nothing is done")):
+            self.assertEqual(f"office: {os.path.join(self.folder, NAME)}: {why}\n", self.run_list(text).stderr)
         self.assertIn("there is no row; nothing is changed", self.run_list("number,paper\n").stderr)
         self.assertIn("none.csv: No such file or directory\n", self.refused("withdraw", "--list", "none.csv"))
         self.assertIn("is no file, but a folder, a pipe or a device; `-` in its place reads what comes in; "

@@ -82,6 +82,13 @@ class Notebook(unittest.TestCase):
         self.assertEqual(notebook.take_notes(self.office, {"0000001": ""}), {"removed": 1})
         self.assertEqual(notebook.notes(self.office), {"0000002": "rest breaks"})
 
+    def test_a_semicolon_in_a_note_parts_no_columns(self):
+        """However lines end: what the first line has parts them."""
+        for end in "\n", "\r\n", "\r":
+            for comma in ",;":
+                text = f'number{comma}text{end}1{comma}"rest, or a walk; a scribe"{end}2{comma}x{end}'
+                self.assertEqual({"0000001": "rest, or a walk; a scribe", "0000002": "x"}, self.texts(text), ascii(text))
+
     def test_the_log_names_the_first_of_many(self):
         notebook.take_notes(self.office, {f"{number:07}": "a scribe" for number in range(1, 26)})
         [line] = logbook.last_lines(self.office)

@@ -306,7 +306,6 @@ class Values(unittest.TestCase):
             return str(fault),
 
     def test_what_was_done_is_said(self) -> None:
-        of_a_hall = "a hall that is open until 00:00 suits nobody; midnight is 24:00"
         for column, text, *said in (
                 ("number", "'17", "0000017", "a quote in front taken away, zeros in front", ""),
                 ("number", "'0000017", "0000017", "a quote in front taken away", ""), ("number", "17 ", "0000017", "spaces at the ends taken away, zeros in front", ""),
@@ -316,9 +315,9 @@ class Values(unittest.TestCase):
                 ("needs", "", "-", "empty is none", ""), ("needs", "None", "-", "none", ""), ("needs", "-", "-", "", ""),
                 ("needs", "Quiet, screen", "screen+quiet", "in the office's words and order", ""), ("needs", "screen+quiet", "screen+quiet", "", ""),
                 ("extra", "", "0", "empty is none", ""), ("extra", "None", "0", "none", ""), ("extra", "25 %", "25", "percent", ""),
-                ("extra", "1", "1", "", "is 1 percent; 100 percent is 100"), ("extra", "0,25", "25 percent? Write the percent as a whole number"),
+                ("extra", "1", "1", "", ""), ("extra", "0,25", "25 percent? Write the percent as a whole number"),
                 ("minutes", "090", "90", "zeros in front taken away", ""), ("minutes", "90", "90", "", ""), ("minutes", "90 min", "90", "minutes", ""),
-                ("minutes", "1 h 30", "90", "1 h 30 min", ""), ("start", "00:00", "00:00", "", ""), ("until", "00:00", "00:00", "", of_a_hall),
+                ("minutes", "1 h 30", "90", "1 h 30 min", ""), ("start", "00:00", "00:00", "", ""), ("until", "00:00", "00:00", "", ""),
                 ("date", "12/12/2027", "2027-12-12", "Sunday, 12 December 2027", ""),
                 ("date", "13/12/2027", "2027-12-13", "Monday, 13 December 2027, as there is no month 13", ""),
                 ("date", "1.6.2027", "2027-06-01", "Tuesday, 1 June 2027, the day first as always with points", ""),
@@ -326,6 +325,19 @@ class Values(unittest.TestCase):
             self.assertEqual(tuple(said), self.read(column, text), (column, text))
         for dates, day in ("day-first", "Tuesday, 1 June"), ("month-first", "Wednesday, 6 January"):
             self.assertEqual(f"{day} 2027, {dates}", self.read("date", "01/06/2027", dates)[1])
+
+    def test_what_is_to_be_written_is_right(self) -> None:
+        """The value that a cure names is one that its column takes; where there is none it names the form alone."""
+        for column, text, said in (("hall", "A 1", "write A1 if"), ("hall", "Raum 101", "write RAUM101 if"), ("hall", "R\ud800 1", "1 to 8 of"),
+                                   ("hall", "Room no 101", "1 to 8 of"), ("code", "wk3d egzd pc", "write WK3DEGZDPC if"),
+                                   ("session", "Mon  am", "write MON-AM if"), ("paper", "Computer science", "1 to 12 of"),
+                                   ("number", "1 234", "write 0001234 if"), ("number", "12.345.678", "seven digits"),
+                                   ("start", "9.30", "write 09:30 if"), ("start", "24.00", "a time as"), ("until", "24.00", "write 24:00 if"),
+                                   ("until", "25h30", "a time as")):
+            [why] = self.read(column, text)
+            self.assertIn(said, why, (column, text))
+            for value in re.findall("write (\\S+) if", why):
+                self.assertTrue(files.RIGHT[column](value.encode()), why)
 
     def test_what_no_eye_sees_is_taken_out(self) -> None:
         """All format characters but the joiners, which are kept, and marks of other scripts, which are seen."""
@@ -439,12 +451,25 @@ class Mending(unittest.TestCase):
     def test_the_choices_of_others_stay(self) -> None:
         """All files of a kind are one list, and no workbook after them is read so for that."""
         with tempfile.TemporaryDirectory() as folder:
-            for place, name in enumerate(("entries.csv", "entries-2.csv", "entries-10.csv"), 1):
-                pathlib.Path(folder, name).write_text(f"number,paper\n000000{place},MA-1\n", "utf-8")
+            for place, name in enumerate(("entries.csv", *(f"entries-{place}.csv" for place in range(2, 11))), 1):
+                pathlib.Path(folder, name).write_text(f"number,paper\n{place:07},MA-1\n", "utf-8")
             job = mend_folder(folder, Job(Known()), None)
-        self.assertEqual((["0000001", "0000002", "0000003"], 0),
+        self.assertEqual(([f"{place:07}" for place in range(1, 11)], 0),
                          ([record.fields[0] for record in job.records["entries"]], job.count("mistake")))
         self.assertEqual([], Job(Known()).together)
+
+    def test_a_file_of_another_year_is_no_second_part(self) -> None:
+        """entries-2.csv goes on where entries.csv ends; a number that follows none is part of a name, as in entries-2026.csv."""
+        with tempfile.TemporaryDirectory() as folder:
+            for place, name in enumerate(("entries.csv", "entries-2.csv", "entries-4.csv", "entries-2026.csv", "candidates-2.csv"), 1):
+                text = "number,name,code\n" if name.startswith("c") else f"number,paper\n{place:07},MA-1\n"
+                pathlib.Path(folder, name).write_text(text, "utf-8")
+            job = mend_folder(folder, Job(Known()), None)
+        self.assertEqual(["0000001", "0000002"], [record.fields[0] for record in job.records["entries"]])
+        self.assertEqual({"NOTE: entries-2.csv goes on where entries.csv ends", *(
+            f"NOTE: {name} is none of the seven files; it is not read"
+            for name in ("entries-4.csv", "entries-2026.csv", "candidates-2.csv"))},
+            {line.whole() for line in job.lines if line.sheet is None and ".csv" in line.text})
 
     def test_a_second_file_is_of_its_kind_whatever_it_has(self) -> None:
         with tempfile.TemporaryDirectory() as folder:
@@ -453,8 +478,9 @@ class Mending(unittest.TestCase):
                 pathlib.Path(folder, name).write_text(text, "utf-8")
             lines = [line.whole() for line in mend_folder(folder, Job(Known()), None).lines]
         self.assertEqual(["NOTE: Pupils.XLSX is none of the seven files; it is not read",
-                          "halls: NOTE: is empty, so it is not read"], lines[:2])
-        self.assertRegex(lines[2], "^'entries-2'!1: MISTAKE: no row is a header with number and paper")
+                          "NOTE: entries-2.csv goes on where entries.csv ends",
+                          "halls: NOTE: is empty, so it is not read"], [*sorted(lines[:2]), lines[2]])
+        self.assertRegex(lines[3], "^'entries-2'!1: MISTAKE: no row is a header with number and paper")
 
     def test_the_code_of_the_office_stands_where_none_is(self) -> None:
         known = Known()
@@ -623,6 +649,24 @@ class Commands(sample.SampleSchool):
         said = self.office("check-files", "facts")
         self.assertIn("NOTE: school.xlsx is a workbook: `office read` makes the files of it", said)
         self.assertIn("NOTE: PUPILS.CSV is none of the seven names, so it is not looked at", said)
+
+    def test_check_files_looks_at_what_take_brings_in(self) -> None:
+        """A second part is looked at after the first, and so is what refers to it; the list of another year is not."""
+        os.mkdir(os.path.join(self.folder, "facts"))
+        for name, text in (("candidates.csv", "number,name,code\n0009001,Ada,CODE9001\n"),
+                           ("candidates-2.csv", "number,name,code\n0009002,Bo,CODE9002\n9003,Cy,CODE9003\n"),
+                           ("candidates-2026.csv", "number,name,code\n0009004,Di,CODE9004\n"),
+                           ("entries.csv", "number,paper\n0009002,EN-1\n")):
+            self.write(os.path.join("facts", name), text)
+        done = self.run_office("check-files", "facts")
+        self.assertEqual((1, ["candidates-2.csv line 3: number '9003': write 0009003 (seven digits; format the column as text)",
+                              "NOTE: candidates-2026.csv is none of the seven names, so it is not looked at",
+                              "3 files, 1 mistake, 0 notes"]), (done.returncode, done.stdout.splitlines()))
+        self.write("facts/candidates-2.csv", "number,name,code\n0009002,Bo,CODE9002\n")
+        self.assertIn("3 files, 0 mistakes, ", self.office("check-files", "facts"))
+        said = self.office("take", "facts", "--yes")
+        self.assertIn("candidates.csv: added 2 changed 0 same 0", said)
+        self.assertNotIn("0009004", self.office("dump", "new") and str(self.rows("new", "candidates")))
 
     @needs_openpyxl
     def test_a_workbook_of_many_changes_takes_few_lines(self) -> None:

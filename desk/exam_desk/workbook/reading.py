@@ -19,16 +19,16 @@ LINES = "read.txt"  # in the folder that is made: what was changed
 
 def mend_folder(folder: str, job: Job, encoding: str | None) -> Job:
     """Reads the import files of a folder by the rules of a workbook's cells, each as a sheet of its name."""
-    book = Book("csv", [], [])
-    for name in sorted(os.listdir(folder), key=lambda name: (len(name), name)):
-        if match := re.fullmatch(rf"({'|'.join(files.HEADERS)})(-[0-9]+)?\.csv", name):
-            found = open_book(os.path.join(folder, name), encoding)
-            book.sheets.extend(found.sheets)
-            book.notes.extend(f"{name}: {note}" for note in found.notes)
-            job.together = [*job.together, match[1]]
-        elif name.lower().endswith(files.TABLES):
-            book.notes.append(f"{name} is none of the seven files; it is not read")
-    if not book.sheets:
+    names, book, job.together = sorted(os.listdir(folder)), Book("csv", [], []), [*files.HEADERS]
+    parts = files.parts_of(names)
+    book.notes.extend(f"{name} is none of the seven files; it is not read" for name in names
+                      if name.lower().endswith(files.TABLES) and name not in parts)
+    for name, kind in parts.items():
+        found = open_book(os.path.join(folder, name), encoding)
+        book.sheets.extend(found.sheets)
+        book.notes.extend([*(f"{name}: {note}" for note in found.notes),
+                           *[f"{name} goes on where {kind}.csv ends"] * (name != f"{kind}.csv")])
+    if not parts:
         raise Trouble("none of the seven files is there", folder)
     return read_book(book, job)
 

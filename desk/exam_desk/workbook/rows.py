@@ -78,14 +78,26 @@ class Table:
             self.note(None, None, f"bears the name of a paper: whom it lists is entered for {self.paper}")
         elif self.kind == "entries" and self.job.way.is_command and is_called_list(self.sheet.name):
             self.mistake(None, None, "is called a list of entries to be withdrawn or reinstated: save it as CSV with "
-                         "commas for `office withdraw --list FILE.csv`, or call it Entries if they are to be entered")
-        if min(self.sheet.rows) < row:
-            self.note(row, None, "is taken as the header; what stands above it is not read")
+                         "the header number,paper for `office withdraw --list FILE.csv`, or call it Entries if they are "
+                         "to be entered")
+        self.tell_above()
         if marks:
             self.note(row, min(self.marks), f"crosses below {marks} are read as {MARKED[self.kind]}")
         self.tell_names()
         self.tell_lacking()
         self.tell_columns()
+
+    def tell_above(self) -> None:
+        """What stands above the header is not read; a row of the table or another header there is a mistake."""
+        row, columns = self.header.row, self.header.columns
+        above = sorted((other, cells) for other, cells in self.sheet.rows.items() if other < row)
+        if above:
+            self.note(row, None, "is taken as the header; what stands above it is not read")
+        for other, cells in above:
+            is_row = len(columns) > 1 and all(place in cells and self.job.said(name, cells[place])
+                                              for name, [place, *_] in columns.items())
+            if is_row or self.begins_other(other, cells):
+                self.mistake(other, None, f"stands above the header in row {row}: put it below, or delete it", "above")
 
     def tell_names(self) -> None:
         """From which columns values are read, where a header has another word, or two could be one."""
@@ -101,9 +113,9 @@ class Table:
             self.note(self.header.row, None, text)
         for name, places in self.header.twice.items():
             if len(places) > 1:
-                columns = ", ".join(map(letters_of, places))
-                self.mistake(self.header.row, places[1], f"columns {columns} could all be {name}: keep one header, or "
-                             "say which in a file of columns")
+                columns, heads = ", ".join(map(letters_of, places)), {folded(self.head[place].text) for place in places}
+                cure = "or say which in a file of columns" if len(heads) > 1 else "and call the others otherwise"
+                self.mistake(self.header.row, places[1], f"columns {columns} could all be {name}: keep one header, {cure}")
 
     def tell_lacking(self) -> None:
         """The columns of the kind that the sheet does not have."""
@@ -309,8 +321,10 @@ class Table:
         places = self.header.columns.get(name, [])
         if not places:
             return self.fixed.get(name, "")
-        filled = [place for place in places if here[place]] or places[:1]
-        return " ".join(self.read_one(row, name, here, place) for place in filled)
+        filled = [place for place in places if here[place]]
+        for place in [place for place in places if filled and place not in filled]:
+            self.note(row, place, f"is empty, so {name} is what stands beside it alone", f"{name} alone")
+        return " ".join(self.read_one(row, name, here, place) for place in filled or places[:1])
 
     def read_one(self, row: int, name: str, here: Row, place: int) -> str:
         """The field of one cell. A time is taken beside a day if that is the day of the session, or no day."""

@@ -36,8 +36,6 @@ MONTHS = {name: place for place, names in enumerate(
      "dec december dez dezember"], 1) for name in names.split()}
 WEEKDAYS = ["monday montag", "tuesday dienstag", "wednesday mittwoch", "thursday donnerstag", "friday freitag",
             "saturday samstag", "sunday sonntag"]
-SHORT_MONTH = "|".join(name for name in MONTHS if len(name) == 3)
-LIKE_A_DAY = re.compile(f"([0-9]{{1,2}}-({SHORT_MONTH})|({SHORT_MONTH})-[0-9]{{2}})", re.I)
 DATES = [re.compile(form) for form in (  # the first form that a text has counts
     r"(?P<year>[0-9]{4})-(?P<month>[0-9]{2})-(?P<day>[0-9]{2})(?:[T ](?P<time>[0-9:.]*)Z?)?",
     r"(?P<year>[0-9]{4})(?P<mark>[/.])(?P<month>[0-9]{1,2})(?P=mark)(?P<day>[0-9]{1,2})",
@@ -178,7 +176,7 @@ def read_number(column: str, cell: Cell, text: str, way: Way) -> Value:
     quoted = cell.kind == "text" and text.startswith(QUOTES)
     digits = text[1:] if quoted else text
     padded = mistakes.with_zeros(files.encoded(digits)).decode("utf-8", "surrogatepass")
-    if re.fullmatch(r"[0-9]{1,3}([ ,.'’][0-9]{3})+", digits):
+    if re.fullmatch(r"[1-9][0-9]{0,2}[ ,.'’][0-9]{3}|[1-9][ ,.'’][0-9]{3}[ ,.'’][0-9]{3}", digits):
         raise Wrong(f"marks between the digits: write {re.sub('[^0-9]', '', digits).zfill(7)} if that is meant")
     if re.fullmatch(r"[0-9]{8,}", digits):
         raise Wrong(f"{len(digits)} digits; a number has seven")
@@ -193,12 +191,10 @@ def read_code(column: str, cell: Cell, text: str, way: Way) -> Value:
         return Value(text, "", "is a number in the workbook: right only if the code has no zeros in front and no E")
     plain = text.translate(DASHES)
     code = plain.upper() if plain.isascii() else plain
-    joined = re.sub(r"\s+", "-", code)
-    if joined != code and files.is_code(joined.encode()):
+    joined = re.sub(r"\s+", "-" if column in ("session", "paper") else "", code)
+    if joined != code and files.RIGHT[column](files.encoded(joined)):
         raise Wrong(f"a space inside: write {joined} if that is meant ({mistakes.CURES[column]})")
-    done = reason("a dash made a hyphen" * (plain != text), "small letters made capitals" * (code != plain))
-    is_day = column != "code" and LIKE_A_DAY.fullmatch(code)
-    return Value(code, done, "looks like what a spreadsheet makes of a code such as MAR-1" if is_day else "")
+    return Value(code, reason("a dash made a hyphen" * (plain != text), "small letters made capitals" * (code != plain)))
 
 
 def read_name(column: str, cell: Cell, text: str, way: Way) -> Value:
@@ -297,14 +293,11 @@ def read_time(column: str, cell: Cell, text: str, way: Way) -> Value:
         raise Wrong("is a date, not a time")
     hour = int(said["hour"]) % 12 + 12 * (said["half"].lower() == "p") if "half" in said else int(said["hour"])
     time = f"{hour:02}:{said['minute'] or '00'}"
-    if "doubt" in said:
+    if "doubt" in said and files.RIGHT[column](time.encode()):
         raise Wrong(f"write {time} if that is meant")
     if column == "until" and (hour == 0 if "half" in said else time == "00:00" and cell.kind != "text"):
         raise Wrong("midnight? Write 24:00 as text if the hall is open until then")
-    if "day" in said:
-        return Value(time, "the time of the cell", day=said["day"])
-    is_never = column == "until" and time == "00:00"
-    return Value(time, "", "a hall that is open until 00:00 suits nobody; midnight is 24:00" * is_never)
+    return Value(time, "the time of the cell" * ("day" in said), day=said.get("day", ""))
 
 
 def read_whole(column: str, cell: Cell, text: str, way: Way) -> Value:
@@ -324,7 +317,7 @@ def read_whole(column: str, cell: Cell, text: str, way: Way) -> Value:
     if column == "minutes" and (match := HOURS.fullmatch(number)):
         hours, minutes = int(match[1]), int(match[2] or match[3] or 0)
         return Value(str(60 * hours + minutes), f"{hours} h {minutes} min")
-    return Value(number, done, "is 1 percent; 100 percent is 100" * ((column, number) == ("extra", "1")))
+    return Value(number, done)
 
 
 READERS: dict[str, tuple[Callable[[str, Cell, str, Way], Value], str]] = {  # with the kinds of cells that it takes

@@ -167,6 +167,20 @@ case("dates-words-german", xlsx(sheet("Sessions", SESSIONS, ["S1", "Dienstag, 1.
      files={"sessions":["S1,2027-06-01,09:00", "S2,2027-06-02,09:00", "S3,2027-12-01,09:00", "S4,2027-10-04,09:00"]})
 case("dates-weekday-german-wrong", xlsx(sheet("Sessions", SESSIONS, ["S1", "Mittwoch, 1. Juni 2027", "09:00"])), 1,
      only=True, mistakes=[["Sessions!B2", "Tuesday"]])
+case("rows-above-the-header", xlsx(sheet("Halls", ["AULA", "Aula", "-"], ["GYM", "Gym", "quiet"], HALLS, ["LAB", "Lab", "-"])), 1, only=True,
+     mistakes=[["Halls!1", "above the header in row 3"], ["Halls!2", "above the header in row 3"]])
+case("table-above-a-larger-one", xlsx(sheet("Candidates", CANDIDATES[:2], ADA[:2], [], CANDIDATES, BO)), 1, only=True,
+     mistakes=[["Candidates!1", "above the header in row 4"]])
+case("titles-above-the-header", xlsx(sheet("Halls", ["HALLS", "as of May 2027"], [2027, None, "draft"], HALLS, ["LAB", "Lab", "-"])),
+     files={"halls": ["LAB,Lab,-"]}, told=[["Halls!3", "what stands above it is not read"]])
+case("csv-errors-and-hours", b"paper,title,session,minutes,requires\nMA-1,#N/A,S1,2,-\nMA-2,Maths,S1,90,-\n", suffix="csv",
+     files={"papers": ["MA-1,#N/A,S1,2,-", "MA-2,Maths,S1,90,-"]},
+     told=[["'further-csv-errors-and-hours'!B2", "an error"], ["'further-csv-errors-and-hours'!D2", "hours"]])
+case("toml-cannot-say-which", xlsx(sheet("Candidates", ["number", "Name", "name", "code"], ["0000001", "Ada", "Bo", "CODE0001"])), 1, only=True,
+     beside={"columns.toml": '[candidates]\nname = "Name"\n'}, args=["--columns", "{here}/columns.toml"],
+     mistakes=[["Candidates!C1", "columns B, C could all be name: keep one header, and call the others otherwise"]])
+case("toml-can-say-which", xlsx(sheet("Candidates", ["number", "Full name", "name", "code"], ["0000001", "Ada", "Bo", "CODE0001"])), 1, only=True,
+     mistakes=[["Candidates!C1", "columns B, C could all be name: keep one header, or say which in a file of columns"]])
 case("code-like-day", xlsx(sheet("Halls", ["hall", "title", "features"], ["1MAR", "A", "-"]), sheet("Sessions",
      SESSIONS, ["1-MAR", "2027-06-01", "09:00"], ["MAR-27", "2027-06-02", "09:00"], ["3-okt", "2027-06-03",
      "09:00"])), files={"halls":["1MAR,A,-"], "sessions":["1-MAR,2027-06-01,09:00", "MAR-27,2027-06-02,09:00",

@@ -256,8 +256,9 @@ case("rows-repeated", ods('<table:table table:name="Candidates">' + ods_row(*CAN
      told=[["Candidates!3", "the same as Candidates!2"]], mistakes=[["Candidates!A7", "number 'x'"]])
 case("dates-of-the-command-and-of-a-file", xlsx(sheet("Sessions", SESSIONS, ["S1", "01/06/2027", "09:00"])), files={"sessions": ["S1,2027-06-01,09:00"]},
      args=["--dates", "day-first", "--columns", "{here}/columns.toml"], beside={"columns.toml": 'dates = "month-first"\n'})
-case("first-name-alone", xlsx(sheet("Candidates", ["number", "Vorname", "Nachname", "code"], ["0000001", "Ada", None, "CODE0001"])),
-     files={"candidates": ["0000001,Ada,CODE0001"]})
+case("first-name-alone", xlsx(sheet("Candidates", ["number", "Vorname", "Nachname", "code"], ["0000001", "Ada", None, "CODE0001"],
+     ["0000002", None, "Lin", "CODE0002"])), files={"candidates": ["0000001,Ada,CODE0001", "0000002,Lin,CODE0002"]},
+     told=[["Candidates!C2", "is empty"], ["Candidates!B3", "is empty"]])
 case("header-repeated-in-part", xlsx(candidates(ADA, ["number", None, None])), 1, mistakes=[["Candidates!A3", "number 'number'"]])
 case("day-12-beside-a-text", xlsx(sheet("Sessions", SESSIONS, ["S1", ("n", "46550", DATE), "09:00"], ["S2", "13/06/2027", "09:00"])),
      1, mistakes=[["Sessions!B2", "2027-06-12", "a mixture"]])
