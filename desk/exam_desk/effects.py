@@ -237,16 +237,12 @@ def who(kind: str, met: list[Met]) -> list[str]:
     return [each.who if kind in OF_PLACES else each.person for each in met]
 
 
-def title(kind: str, met: list[Met]) -> str:
-    return counted(KINDS[kind], who(kind, met))
-
-
 def lines(met: Groups, at_most: int | None) -> list[str]:
     """A line for each way in which candidates are met, and below it who they are, at most so many."""
     shown = []
     for kind, found in met.items():
         people = [] if kind in COUNTED else found
-        shown += [title(kind, found), *(f"  {each.who}: {each.what}" for each in people[:at_most])]
+        shown += [counted(KINDS[kind], who(kind, found)), *(f"  {each.who}: {each.what}" for each in people[:at_most])]
         if rest := len(people) - len(people[:at_most]):
             shown.append(f"  .. and {rest:,} more")
     return shown
@@ -255,7 +251,7 @@ def lines(met: Groups, at_most: int | None) -> list[str]:
 def headlines(met: Groups) -> list[str]:
     """A line for each way in which candidates are met: a few by their names, many by the sessions in which they are
     most."""
-    return [f"{title(kind, found)}: {where(kind, found)}" for kind, found in met.items()]
+    return [f"{counted(KINDS[kind], who(kind, found))}: {where(kind, found)}" for kind, found in met.items()]
 
 
 def where(kind: str, met: list[Met]) -> str:

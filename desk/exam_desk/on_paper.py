@@ -176,9 +176,11 @@ def otherwise(office: Office) -> dict[str, Papers]:
 
 
 def mark(reading: Reading) -> str:
-    """What the foot of papers names: the state of the office, and behind it that of notes and names beside it."""
+    """What the foot of papers names: the state of the office, and behind it that of notes and names beside it. Nobody
+    can try out what a note may be, who knows no access codes: they are in the name of a state."""
     kept = sorted(notebook.contents(reading.office, notebook.PLACE, among=ON_ALL).items())
-    return reading.name[:8] + (f"-{hashlib.sha256(repr(kept).encode()).hexdigest()[:4]}" if kept else "")
+    behind = hashlib.sha256(repr([reading.name, kept]).encode()).hexdigest()[:4]
+    return f"{reading.name[:8]}-{behind}" if kept else reading.name[:8]
 
 
 def note(office: Office, reading: Reading, session: str) -> tuple[int, str]:

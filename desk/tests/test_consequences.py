@@ -94,8 +94,7 @@ class Kinds(unittest.TestCase):
             page = papers.changes(mock.MagicMock(), mock.MagicMock(office=self.office), changes, "Since 1")
         self.assertIn("<h2>2 sit at other times (4 sittings)</h2>", page)
         halls = [effects.Met(session, "and S3 in A", "") for session in ("S1", "S2")]
-        self.assertEqual(effects.title(effects.HALLS, halls),
-                         "2 halls have candidates of two sessions at one time")
+        self.assertEqual(effects.lines({effects.HALLS: halls}, 0)[0], "2 halls have candidates of two sessions at one time")
 
     @property
     def office(self):
