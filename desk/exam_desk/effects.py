@@ -138,12 +138,13 @@ def opened(before: Reading, after: Reading) -> dict[tuple[str, str], str]:
 
 
 def out_of_date(before: Reading, after: Reading, touched: Sequence[str]) -> dict[str, on_paper.Papers]:
-    """By session the papers that a change in some sessions makes out of date; sheets of others name what somebody sits
-    there."""
+    """By session the papers that a change in some sessions makes out of date; sheets of others to come name what
+    somebody sits there."""
     printed = notebook.sessions_with(after.office, "printed")
     met = {number for reading in (before, after) for code in touched if printed
            for number in facts.entered(reading.rows, code)}
-    return {code: papers for code in dict.fromkeys([*touched, *printed])
+    coming = [code for code, day, _ in facts.sessions(after.rows) if not after.office.is_over(day)]
+    return {code: papers for code in dict.fromkeys([*touched, *coming])
             if code in printed and (papers := papers_of(before, after, code, met))}
 
 

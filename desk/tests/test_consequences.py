@@ -323,6 +323,14 @@ class Told(sample.SampleSchool):
         self.environment["TODAY"] = "2027-07-01"
         self.assertEqual(self.told("name", "0001051", "Another Name"), [])
 
+    def test_papers_of_a_session_that_is_over(self):
+        """0001051 sits in MON-AM and TUE-AM, too. Nobody prints papers of the day before again."""
+        for session in ("MON-AM", "TUE-AM"):
+            self.office("printed", session)
+        for self.environment["TODAY"], sessions in (("2027-06-07", "MON-AM TUE-AM"), ("2027-06-08", "TUE-AM")):
+            first, *_ = self.told("name", "0001051", f"Di Hill {sessions}")
+            self.assertEqual(re.findall(r"(\S+) \(doors", first), sessions.split())
+
     def test_whom_a_change_of_a_session_that_is_over_meets(self):
         """Somebody who misses another paper than before, though nobody sits otherwise; nobody who has another name."""
         self.environment["TODAY"] = "2027-07-01"
