@@ -138,12 +138,13 @@ def opened(before: Reading, after: Reading) -> dict[tuple[str, str], str]:
 
 
 def out_of_date(before: Reading, after: Reading, touched: Sequence[str]) -> dict[str, on_paper.Papers]:
-    """By session the papers that a change in some sessions makes out of date; sheets of others name what somebody sits
-    there."""
+    """By session the papers that a change in some sessions makes out of date; sheets of others to come name what
+    somebody sits there."""
     printed = notebook.sessions_with(after.office, "printed")
     met = {number for reading in (before, after) for code in touched if printed
            for number in facts.entered(reading.rows, code)}
-    return {code: papers for code in dict.fromkeys([*touched, *printed])
+    coming = [code for code, day, _ in facts.sessions(after.rows) if not after.office.is_over(day)]
+    return {code: papers for code in dict.fromkeys([*touched, *coming])
             if code in printed and (papers := papers_of(before, after, code, met))}
 
 
@@ -237,16 +238,12 @@ def who(kind: str, met: list[Met]) -> list[str]:
     return [each.who if kind in OF_PLACES else each.person for each in met]
 
 
-def title(kind: str, met: list[Met]) -> str:
-    return counted(KINDS[kind], who(kind, met))
-
-
 def lines(met: Groups, at_most: int | None) -> list[str]:
     """A line for each way in which candidates are met, and below it who they are, at most so many."""
     shown = []
     for kind, found in met.items():
         people = [] if kind in COUNTED else found
-        shown += [title(kind, found), *(f"  {each.who}: {each.what}" for each in people[:at_most])]
+        shown += [counted(KINDS[kind], who(kind, found)), *(f"  {each.who}: {each.what}" for each in people[:at_most])]
         if rest := len(people) - len(people[:at_most]):
             shown.append(f"  .. and {rest:,} more")
     return shown
@@ -255,7 +252,7 @@ def lines(met: Groups, at_most: int | None) -> list[str]:
 def headlines(met: Groups) -> list[str]:
     """A line for each way in which candidates are met: a few by their names, many by the sessions in which they are
     most."""
-    return [f"{title(kind, found)}: {where(kind, found)}" for kind, found in met.items()]
+    return [f"{counted(KINDS[kind], who(kind, found))}: {where(kind, found)}" for kind, found in met.items()]
 
 
 def where(kind: str, met: list[Met]) -> str:

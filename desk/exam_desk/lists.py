@@ -32,11 +32,6 @@ def letters(text: str) -> str:
     return COMMA.sub(" ", fold(text)).replace("'", "")
 
 
-def has_words(name: str, words: list[str]) -> bool:
-    """Whether a name has all words that are asked for, both as `letters` gives them. No words find nobody."""
-    return bool(words) and all(word in name for word in words)
-
-
 def parted(name: str) -> tuple[str, str]:
     """The surname by which a list has somebody, and the other names: what stands before the first comma, otherwise the
     last word. So `van Beethoven, Ludwig` stands under V, and `Ludwig van Beethoven` under B."""

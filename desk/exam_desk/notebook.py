@@ -10,7 +10,7 @@ import json
 import os
 import re
 from collections import Counter
-from collections.abc import Callable, Iterable, Iterator, Mapping, Sequence
+from collections.abc import Callable, Collection, Iterable, Iterator, Mapping, Sequence
 from typing import Any, NamedTuple
 
 from exam_desk import beside, facts, files, logbook, typed, words
@@ -271,12 +271,12 @@ def words_of(name: str) -> str:
     return KINDS[found[1]][0].format(found[2]) if found and found[1] in KINDS else name
 
 
-def contents(office: Office, *place: str) -> dict[str, bytes]:
-    """The files of a notebook by name; none where there is none."""
+def contents(office: Office, *place: str, among: Collection[str] = ()) -> dict[str, bytes]:
+    """The files of a notebook by name, or those of some names; none where there is none."""
     found = {}
     with contextlib.suppress(FileNotFoundError), beside.open_folder(office.path, *place) as folder:
         for name in os.listdir(folder):
-            if not name.endswith(NEW):
+            if name in among or not (among or name.endswith(NEW)):
                 with open(beside.open_file(office.path, *place, name), "rb") as file:
                     found[name] = file.read()
     return found

@@ -12,6 +12,7 @@ from exam_desk.sheets import PAPERS
 
 SCHOOL, OF = "school", ": "  # where others have a code; between a code and what is shown of it
 OF_SCHOOL = {what: f"{SCHOOL}{OF}{kind}" for what, kind in ((notebook.SCHOOL, "name"), (notebook.PAGE, "page"))}
+ON_ALL = [f"{name}.json" for name in ("notes", notebook.SCHOOL, notebook.PAGE)]  # of the notebook; rows are on charts
 EVERYWHERE = {"hall", "date", "start", "hall title"}  # what all papers show
 Papers = dict[str, list[str]]  # which are out of date, each with its halls; none where it is of the whole session
 Other = tuple[str, str, str]  # what is another, its value on paper, and now
@@ -174,6 +175,14 @@ def otherwise(office: Office) -> dict[str, Papers]:
     return {code: papers for code, papers in found.items() if papers}
 
 
+def mark(reading: Reading) -> str:
+    """What the foot of papers names: the state of the office, and behind it that of notes and names beside it. Nobody
+    can try out what a note may be, who knows no access codes: they are in the name of a state."""
+    kept = sorted(notebook.contents(reading.office, notebook.PLACE, among=ON_ALL).items())
+    behind = hashlib.sha256(repr([reading.name, kept]).encode()).hexdigest()[:4]
+    return f"{reading.name[:8]}-{behind}" if kept else reading.name[:8]
+
+
 def note(office: Office, reading: Reading, session: str) -> tuple[int, str]:
     """Notes, in the log too, that the papers of a session are printed as it is; how many desks, and an answer."""
     facts.session_row(reading.rows, session)
@@ -182,7 +191,7 @@ def note(office: Office, reading: Reading, session: str) -> tuple[int, str]:
     common = {what: [value, 0] for what, value in shared(reading, session).items() if is_of(what, halls, papers)}
     notebook.keep(office, f"printed.{session}", lambda _: common | lines)
     desks = sum(line.hall != "" for line in lines.values())
-    said = f"{lists.count(desks, 'desk')} noted, of state {reading.mark}: the foot of each paper must say that"
+    said = f"{lists.count(desks, 'desk')} noted, of state {mark(reading)}: the foot of each paper must say that"
     logbook.write_done(office, ["printed", session], 0, said)
     return desks, said
 

@@ -92,11 +92,6 @@ class Reading(contextlib.AbstractContextManager["Reading"]):
         """The name of the state that was read."""
         return snapshot.name_of(self.rows)
 
-    @property
-    def mark(self) -> str:
-        """The beginning of the name, as the foot of papers has it."""
-        return self.name[:8]
-
     def is_current(self) -> bool:
         """Whether the office is still as it was read. False also where it had changed just before: another change at
         the same time would not be seen."""

@@ -16,7 +16,7 @@ from exam_desk.reading import Member, Reading, Sitting
 from exam_desk.reasons import Reasons
 from exam_desk.snapshot import Rows
 from exam_desk.office import Trouble
-from exam_desk.words import Said, clock, feature_text
+from exam_desk.words import Said, clock, feature_text, short_day
 
 MOST_LETTERS = 12  # of the code of a session or a paper
 PAPERS = ("SELECT paper.code AS code, title, session, minutes, requires, day, start FROM paper "
@@ -150,18 +150,26 @@ def elsewhere(reading: Reading, members: Iterable[Member]) -> dict[str, list[str
 
 def told(made: Mapping[str, sqlite3.Row], starts: Mapping[str, int], sits: Sitting, all_of: Collection[Sitting]
          ) -> Iterator[str]:
-    """What invigilators must know: what somebody sits in another session at that time; and where a second sitting is
-    behind this one, or is this one, that somebody stays with them in between."""
-    beside, mine = overlaps.beside(starts, sits, all_of), made.get(sits.paper)
-    for other in all_of:
-        first, where = made.get(other.paper), other.hall or "no hall yet"
-        if other in beside:
-            when = f"until {other.finish}" if starts[other.session] < starts[sits.session] else f"from {other.start}"
-            yield f"sits {other.session} {when}, in {where}"
-        if first and first["session"] == sits.session:
-            yield f"stay with them: {first['code']} at {other.start} in {where}"
-        elif mine and mine["session"] == other.session:
-            yield f"watched since {other.finish}, comes from {other.hall or 'no hall'}"
+    """What invigilators must know: what somebody sits in another session at that time; and that somebody stays with
+    them behind this sitting, or was with them before it, from a first sitting to the last second one of its session."""
+    beside, now = overlaps.beside(starts, sits, all_of), starts[sits.session]
+    for other in beside:
+        when = f"until {other.finish}" if starts[other.session] < now else f"from {other.start}"
+        yield f"sits {other.session} {when}, in {other.hall or 'no hall yet'}"
+    sessions, apart = {each.session for each in all_of}, [each for each in all_of if each not in beside]
+    spans = [(starts[first["session"]], starts[each.session]) for each in all_of
+             if (first := made.get(each.paper)) and first["session"] in sessions]
+    for other in apart[apart.index(sits) + 1:][:1]:
+        if any(begin <= now < end for begin, end in spans):
+            code = made[other.paper]["code"] if other.paper in made else other.paper
+            yield f"stay with them: {code}{day(other, sits)} at {other.start} in {other.hall or 'no hall yet'}"
+    for other in apart[:apart.index(sits)][-1:]:
+        if any(begin < now <= end for begin, end in spans):
+            yield f"watched since {other.finish}{day(other, sits)}, comes from {other.hall or 'no hall'}"
+
+
+def day(other: Sitting, sits: Sitting) -> str:
+    return f" on {short_day(other.date)}" if other.date != sits.date else ""
 
 
 def own_code(rows: Rows, code: str) -> str:

@@ -49,7 +49,8 @@ SESSIONS = {  # by table: which sessions a row that is another can change, as a 
     "opening": "SELECT session FROM different",
     "entry": "SELECT session FROM {moment}.paper WHERE code IN (SELECT paper FROM different)",
     "candidate": OF_NUMBERS, "arrangement": OF_NUMBERS, "appeal": OF_NUMBERS, "standing": OF_NUMBERS,
-    "seat": f"SELECT session FROM different WHERE {TO_COME}",  # the same rows can be seated in more than one way
+    "seat": f"SELECT session FROM different WHERE {TO_COME} OR (session, number) NOT IN (SELECT session, number FROM "
+            "{other}.seat)",  # the same rows can be seated in more than one way
 }
 CHANGED = ["sessions", "papers", "halls", "openings", "arrangements"]  # of rows whose other values are said
 Titles = tuple[dict[str, str], dict[str, str]]  # of papers and of halls, by code
@@ -131,7 +132,8 @@ def columns(sitting: Sitting | None) -> list[str]:
 
 def touched(before: Reading, after: Reading, since: str | None = None) -> list[str]:
     """The sessions in order in which the change can meet somebody. Of those before a day, which is today unless another
-    is given, the ones that a row names: another arrangement or name comes too late for them."""
+    is given, the ones that a row names, and where somebody newly has a desk or none, as the exam board is told: another
+    arrangement or name comes too late for the others."""
     day, found = after.office.today().isoformat() if since is None else since, set[str]()
     with contextlib.closing(sqlite3.connect(":memory:")) as both:
         both.execute("PRAGMA temp_store = MEMORY")  # reasons of appeals are in no file of others
@@ -141,7 +143,8 @@ def touched(before: Reading, after: Reading, since: str | None = None) -> list[s
             both.execute("DROP TABLE IF EXISTS temp.different")
             both.execute(f"CREATE TEMP TABLE different AS SELECT * FROM {moment}.{table} EXCEPT "
                          f"SELECT * FROM {other}.{table}")
-            found.update(code for code, in both.execute(SESSIONS[table].format(moment=moment), {"since": day}))
+            rows = both.execute(SESSIONS[table].format(moment=moment, other=other), {"since": day})
+            found.update(code for code, in rows)
     return [code for code in all_sessions(before, after) if code in found]
 
 

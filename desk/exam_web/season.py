@@ -21,7 +21,7 @@ SOON, URGENT = 14, 3  # days before a session, or the last day to lodge; before 
 RECENT = 7  # days after a session in which it is missed that nobody noted who was absent
 ASKED = "SELECT session, printf('%07d', number) FROM appeal WHERE kind = 2 AND state IN (1, 2)"  # open, or granted
 OPEN_KINDS = "SELECT kind, count(*) FROM appeal WHERE session = ? AND state = 1 GROUP BY kind"
-LEVELS = ["late", "now", "soon", "note"]  # the most urgent first
+LEVELS = ["late", "now", "soon", "note", "over"]  # the most urgent first; at last what nobody can do any more
 
 
 class Attention(NamedTuple):
@@ -84,7 +84,8 @@ def of_sessions(found: list[Sums], is_whole: bool) -> Iterator[Attention]:
         last, lodge = appeals.last_day(each.day), appeals.last_day(each.day, "clash")
         if each.waiting:
             kinds = {appeals.KINDS[kind]: count for kind, count in view().rows(OPEN_KINDS, [each.code])}
-            yield Attention(level(last, URGENT), last, "appeals", {**here, "count": each.waiting, "kinds": kinds})
+            yield Attention("over" if soon == "late" else level(last, URGENT), last, "appeals",
+                            {**here, "count": each.waiting, "kinds": kinds})
         if soon == "late":
             continue
         if each.short:

@@ -71,7 +71,7 @@ def page(code: str) -> str:
                          [code, MOST_PEOPLE + 1])
     pairs = second_sitting.pairs(view().reading.rows)
     return render_template("session.html", shown=shown, s=shown.sums, lodged=lodged, previous=before, next=after,
-                           absences=notebook.absences(view().reading, code),
+                           absences=notebook.absences(view().reading, code), foot=on_paper.mark(view().reading),
                            seconds=sorted({second["session"] for first, second in pairs if first["session"] == code}),
                            shortage=shortage(view(), code) if shown.sums.short else None, most=MOST_PEOPLE)
 
@@ -180,12 +180,12 @@ def compare_printed(code: str) -> str:
 def note_printed(code: str) -> Response:
     """Notes that the sheets are printed, if the office is as the page beside them showed it."""
     Session(code)
-    if request.form.get("state") != view().name:
+    if request.form.get("foot") != (foot := on_paper.mark(view().reading)):
         told = text("Nothing is noted: the office is not as the page showed it. Print the sheets again.")
         return lead("session.page", told, "bad", code=code)
     desks, _ = on_paper.note(office(), view().reading, code)
     told = text("Noted as printed: {desks} of {session}. The foot of each sheet must say state {state}.", session=code,
-                desks=many(desks, "{count} desk", "{count} desks"), state=view().reading.mark)
+                desks=many(desks, "{count} desk", "{count} desks"), state=foot)
     return lead("session.page", told, code=code)
 
 

@@ -14,6 +14,7 @@ from sample import DESK, KINDS, SampleSchool
 
 MARK, STATE = 'name="mark" value="([^"]+)"', 'name="state" value="([^"]*)"'
 SEEN = 'name="seen" value="([^"]+)"'  # of the form that does what was rehearsed: the state that was
+FOOT = 'name="foot" value="([^"]+)"'  # of the form that notes what is printed: what the foot of each sheet says
 TICK = 'name="tick" value="1" required'
 EFFECT = r'effect (\w+)"><b>([\d,]+)</b>[^<]*(?:<small>\((?:<bdi>)?([\d,]+))?'
 LINK = r"http://127\.0\.0\.1:(\d+)(/[^/\s]+)/enter#(\S+)"
@@ -87,8 +88,8 @@ class Browser:
         """Posts as the form of a page does, with its mark, its states and the tick that it wants; gives where it leads,
         and the text."""
         text = self.get(page)
-        state, seen = re.search(STATE, text), re.search(SEEN, text)
-        values = {"mark": re.search(MARK, text)[1], "state": state[1] if state else "", "seen": seen[1] if seen else "",
+        state, seen, foot = (found[1] if (found := re.search(form, text)) else "" for form in (STATE, SEEN, FOOT))
+        values = {"mark": re.search(MARK, text)[1], "state": state, "seen": seen, "foot": foot,
                   "tick": "1" if TICK in text else "", **values}
         answer, text = self.ask("POST", path, urllib.parse.urlencode(values, doseq=True))
         assert answer.status in (status if isinstance(status, tuple) else (status,)), (path, answer.status, text[-800:])

@@ -94,8 +94,7 @@ class Kinds(unittest.TestCase):
             page = papers.changes(mock.MagicMock(), mock.MagicMock(office=self.office), changes, "Since 1")
         self.assertIn("<h2>2 sit at other times (4 sittings)</h2>", page)
         halls = [effects.Met(session, "and S3 in A", "") for session in ("S1", "S2")]
-        self.assertEqual(effects.title(effects.HALLS, halls),
-                         "2 halls have candidates of two sessions at one time")
+        self.assertEqual(effects.lines({effects.HALLS: halls}, 0)[0], "2 halls have candidates of two sessions at one time")
 
     @property
     def office(self):
@@ -324,6 +323,14 @@ class Told(sample.SampleSchool):
         self.environment["TODAY"] = "2027-07-01"
         self.assertEqual(self.told("name", "0001051", "Another Name"), [])
 
+    def test_papers_of_a_session_that_is_over(self):
+        """0001051 sits in MON-AM and TUE-AM, too. Nobody prints papers of the day before again."""
+        for session in ("MON-AM", "TUE-AM"):
+            self.office("printed", session)
+        for self.environment["TODAY"], sessions in (("2027-06-07", "MON-AM TUE-AM"), ("2027-06-08", "TUE-AM")):
+            first, *_ = self.told("name", "0001051", f"Di Hill {sessions}")
+            self.assertEqual(re.findall(r"(\S+) \(doors", first), sessions.split())
+
     def test_whom_a_change_of_a_session_that_is_over_meets(self):
         """Somebody who misses another paper than before, though nobody sits otherwise; nobody who has another name."""
         self.environment["TODAY"] = "2027-07-01"
@@ -372,14 +379,24 @@ class Told(sample.SampleSchool):
         self.assertEqual(self.told("back", "1", "--yes")[0], "1 sits at another time (3 sessions): MON-AM 0001051 Di Berg; "
                                                              "MON-PM 0001051 Di Berg; TUE-AM 0001051 Di Berg")
 
+    def test_a_desk_in_the_past_is_told(self):
+        """Who has one is present in the list for the exam board, and who has none is not. 0001051 sits in three sessions;
+        no hall is quiet, and 0001935 waits for the desk in MON-AM."""
+        path = self.write("a.csv", "number,needs,extra\n0001051,quiet,0\n")
+        self.environment["TODAY"] = "2027-06-08"
+        self.assertIn('"0001051","CS-1","present"\n', self.run_office("absent", "MON-AM").stdout)
+        for words, has in (["import", "arrangements", path], "no desk"), (["back", "1", "--yes"], "present"):
+            self.assertIn("2 sessions that are over are changed\n", self.office("what-if", *words))
+            over, loses, *_ = self.told(*words)
+            self.assertRegex(over, "^2 sessions that are over are changed: MON-AM of 2027-06-07 for ")
+            self.assertIn({"no desk": "MON-AM 0001051 Di Berg", "present": "MON-AM 0001935 Frida S"}[has], loses)
+            self.assertIn(f'"0001051","CS-1","{has}"\n', self.run_office("absent", "MON-AM").stdout)
+
     def test_the_past_is_told_where_another_row_names_it(self):
-        """All but 0001000 need three things together. With a paper of MON-PM that session is told."""
-        rows = "".join(f"{number:07},screen+small-room+quiet,0\n" for number in range(1017, 2004, 17))
+        """Some get extra time, which comes too late. With a paper of MON-PM that session is told."""
+        rows = "".join(f"{number:07},-,1\n" for number in (1051, 1731, 1017, 1068))
         words = ["import", "arrangements", self.write("arrangements.csv", f"number,needs,extra\n{rows}")]
-        self.assertIn("59 lose their desks", self.office("what-if", *words, TODAY="2027-06-07"))
-        over = self.office("what-if", *words, TODAY="2027-06-09")
-        self.assertIn("\nnobody sits otherwise\n", over)
-        self.assertNotIn("in MON-PM", over)
+        self.assertIn("\nnobody sits otherwise\n", self.office("what-if", *words, TODAY="2027-06-09"))
         self.write("papers.csv", "paper,title,session,minutes,requires\nEN-1,English language,MON-PM,95,-\n")
         over = self.office("what-if", "take", ".", TODAY="2027-06-09")
         self.assertEqual(set(re.findall(r"^  (\S+) 0", over, re.M)), {"MON-PM"})

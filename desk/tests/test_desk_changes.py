@@ -311,6 +311,13 @@ class TestAppeals(DeskSchool):
         text = self.browser.get(page)
         self.assertEqual({kind: counts for kind, counts in effects(text).items() if kind != "desk"}, {"paper": (1, 1)})
 
+    def test_a_grant_that_brings_nobody_a_desk(self):
+        """Who has none, and asks for what no hall with a free desk has, has none afterwards."""
+        self.office("lodge", "0001935", "MON-AM", "arrangement", "quiet", "0", "")
+        words = self.browser.words("/appeals/1935/D1/if-granted")
+        self.assertIn("Frida Sørensen would still have no desk.", words)
+        self.assertNotIn("keep", words)
+
     def test_lodged_and_decided(self):
         self.lodged()
         before = self.seats()

@@ -90,6 +90,21 @@ class TestPrinting(DeskSchool):
             if self.office("printed") == "nobody noted that papers are printed\n":
                 self.office("printed", "MON-AM")
 
+    def test_a_note_that_comes_between_the_printer_and_the_tick(self):
+        """The sheets lack it, so they are not noted as printed; their foot says another state than a new one."""
+        def foot():
+            return re.search("printed .*?, state ([0-9a-f-]+)<", self.browser.get("/sessions/MON-AM/print/doors"))[1]
+        page, old = self.browser.get("/sessions/MON-AM"), foot()
+        self.assertIn(f"the foot of each sheet says state <bdi>{old}</bdi>", page)
+        self.browser.post("/candidates/1306/note", "/candidates/1306", note="staff: epilepsy")
+        self.browser.post(self.PRINTED, "/candidates/1306", foot=old)
+        self.assertIn("Nothing is noted", self.browser.words("/sessions/MON-AM"))
+        self.assertNotEqual(foot(), old)
+        self.assertIn(f" noted, of state {foot()}: the foot of each paper must say that\n", self.office("printed", "MON-AM"))
+        self.assertTrue(foot().startswith(f"{old}-"), foot())
+        self.browser.post(self.PRINTED, "/sessions/MON-AM")
+        self.assertIn(f"The foot of each sheet must say state {foot()} .", self.browser.words("/sessions/MON-AM"))
+
     def test_rows_and_the_school_say_so_at_once(self):
         self.office("rows", "AULA", "6")
         self.office("printed", "MON-AM")
@@ -174,7 +189,7 @@ class TestPrinting(DeskSchool):
         self.assertNotIn("&lt;bdi", text)
 
     def test_printed_from_an_old_page(self):
-        self.browser.post(self.PRINTED, "/sessions/MON-AM", state="0" * 64)
+        self.browser.post(self.PRINTED, "/sessions/MON-AM", foot="0" * 8)
         self.assertIn("Nothing is noted", self.browser.words("/sessions/MON-AM"))
         self.assertIn("nobody noted", self.refused("printed", "MON-AM", "--look"))
         self.browser.post("/sessions/NONE/printed", "/sessions/MON-AM", 404)

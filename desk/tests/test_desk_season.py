@@ -172,8 +172,12 @@ class TestDays(DeskSchool):
         """The last day for MON-AM is 6 June."""
         self.office("lodge", "0001051", "MON-AM", "hall", "PC1", "")
         for today, level, word in (("2027-06-02", "soon", "by"), ("2027-06-03", "now", "by"),
-                                   ("2027-06-06", "now", "by"), ("2027-06-07", "late", "too late since")):
-            self.assertIn(f'<li class="{level}"><span class="when">{word} <time datetime="2027-06-06">', self.on(today))
+                                   ("2027-06-06", "now", "by"), ("2027-06-07", "late", "too late since"),
+                                   ("2027-06-08", "over", "too late since")):
+            page = self.on(today)
+            self.assertIn(f'<li class="{level}"><span class="when">{word} <time datetime="2027-06-06">', page)
+        levels = re.findall(r'<li class="(\w+)"><span class="when">', page)
+        self.assertEqual((levels[0], levels[-1]), ("now", "over"))  # what nobody can decide any more hides nothing
 
     def test_a_week_after_a_session_nobody_asks_any_more_who_was_absent(self):
         for today, asked in ("2027-06-15", True), ("2027-06-16", False):

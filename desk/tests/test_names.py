@@ -1,11 +1,14 @@
 """The order of names in lists, over names as schools write them."""
+import contextlib
 import pathlib
 import random
+import sqlite3
 import sys
 import unittest
 
 sys.path.insert(0, str(pathlib.Path(__file__).resolve().parents[1]))
 from exam_desk import lists, words  # noqa: E402
+from exam_desk.sheets import texts  # noqa: E402
 
 # In the order of a list: the surname is what stands before a comma, otherwise the last word.
 IN_ORDER = [
@@ -62,9 +65,15 @@ class Names(unittest.TestCase):
         for name, asked in (("O’Neill, Uma", "uma oneill"), ("Smith,Uma", "SMITH uma"), ("كريم، منى", "منى كريم")):
             for word in lists.letters(asked).split():
                 self.assertIn(word, lists.letters(name).split())
-            self.assertTrue(lists.has_words(lists.letters(name), lists.letters(asked).split()))
-        self.assertFalse(lists.has_words("smith uma", ["uma", "smythe"]))
-        self.assertFalse(lists.has_words("smith uma", []))
+            self.assertEqual(self.found([name], asked), [name])
+        self.assertEqual([self.found(["Smith, Uma"], asked) for asked in ("uma smythe", "", " ")], [[], [], []])
+
+    def found(self, names, asked):
+        with contextlib.closing(sqlite3.connect(":memory:")) as rows:
+            rows.row_factory = sqlite3.Row
+            rows.execute("CREATE TABLE candidate (number, name, code)")
+            rows.executemany("INSERT INTO candidate VALUES (1, ?, 'CODE')", [[name] for name in names])
+            return [person.name for person in texts.find(rows, asked)]
 
 
 if __name__ == "__main__":

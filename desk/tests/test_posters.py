@@ -223,7 +223,7 @@ class OutOfDate(sample.SampleSchool):
                 ("rows", "", {}), ("school", "", {})):
             with self.subTest(what), Reading(office) as reading:
                 pages, then, shared = self.printed(reading)
-                reading.mark  # from now on, whatever rows are others
+                reading.name  # from now on, whatever rows are others
                 reading.rows.execute(query) if query else None
                 self.sits(reading, **values)
                 if what == "left":

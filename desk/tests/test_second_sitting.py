@@ -10,6 +10,7 @@ import subprocess
 import unittest
 
 import breaking
+import cells
 import sample
 import test_changing
 from exam_desk import lists, second_sitting
@@ -75,6 +76,49 @@ class There(SecondSitting):
                       "to print again: doors of R14; slips\n", self.office("printed", "MON-AM", "--look"))
         listed = self.run_office("absent", "MON-AM", TODAY="2027-06-07")
         self.assertIn("NOTE MA-1 is sat in MON-AM-2 too: `office absent MON-AM-2` lists it\n", listed.stderr)
+
+    def told(self, session):
+        """By number what the invigilators' sheet of a session says of second sittings."""
+        rows = cells.Cells(self.office("doors", session)).rows
+        return {row[1]: [line for line in row[5].split("|") if line.startswith(("stay", "watched"))]
+                for row in rows if row[0].isdigit()}
+
+    def test_nobody_is_left_alone_between_three_papers(self):
+        """0000003 has three at once, and two second sittings: until the last of them somebody stays."""
+        self.office("open-hall", "MON-AM", "R14", "9", "18:00")
+        self.enter("entries", "number,paper\n0000003,MA-2\n")
+        self.second(*ONE)
+        self.second("0000003", "MA-2", "13:00", "R12")
+        self.assertEqual(self.told("MON-AM")["0000003"], ["stay with them: MA-1 at 10:30 in R14"])
+        self.assertEqual(self.told("MON-AM-2"), {"0000003": [
+            "stay with them: MA-2 at 13:00 in R12", "watched since 10:30, comes from R14"]})
+        self.assertEqual(self.told("MON-AM-3"), {"0000003": ["watched since 12:30, comes from R14"]})
+
+    def test_who_sits_something_else_before_the_second_sitting(self):
+        """EN-1 of MON-PM, from 13:30 to 15:00, for one of two: the invigilators there stay with this one, too."""
+        for session in ("MON-AM", "MON-PM"):
+            self.office("open-hall", session, "R14", "9", "18:00")
+        self.enter("entries", "number,paper\n0000003,EN-1\n")
+        for number in ("0000002", "0000003"):
+            self.second(number, "MA-1", "16:00", "R12")
+        between = self.told("MON-PM")
+        self.assertEqual(between.pop("0000003"), ["stay with them: MA-1 at 16:00 in R12", "watched since 10:30, comes from R14"])
+        self.assertEqual({*map(len, between.values())}, {0})
+        hall = self.seats("MON-PM")["0000003"][1]
+        self.assertEqual(self.told("MON-AM")["0000003"], [f"stay with them: EN-1 at 13:30 in {hall}"])
+        self.assertEqual(self.told("MON-AM-2"), {"0000002": ["watched since 10:30, comes from R14"],
+                                                 "0000003": [f"watched since 15:00, comes from {hall}"]})
+
+    def test_a_second_sitting_on_another_day(self):
+        """Somebody stays over the night; nobody does for a paper that the others write later."""
+        self.office("open-hall", "MON-AM", "R14", "9", "18:00")
+        self.second(*ONE)
+        sessions = "session,date,start\nMON-AM-2,{},10:30\n"
+        self.enter("sessions", sessions.format("2027-06-08"))
+        self.assertEqual(self.told("MON-AM")["0000003"], ["stay with them: MA-1 on Tue 8 June 2027 at 10:30 in R14"])
+        self.assertEqual(self.told("MON-AM-2")["0000003"], ["watched since 10:30 on Mon 7 June 2027, comes from R14"])
+        self.enter("sessions", sessions.format("2027-06-06"))
+        self.assertEqual(self.told("MON-AM")["0000003"] + self.told("MON-AM-2")["0000003"], [])
 
     def test_the_first_makes_a_session_and_a_paper(self):
         said = self.second(*ONE)

@@ -8,7 +8,7 @@ from collections.abc import Iterable, Sequence
 
 from markupsafe import Markup, escape
 
-from exam_desk import facts, notebook
+from exam_desk import facts, notebook, on_paper
 from exam_desk.office import Office
 from exam_desk.reading import Reading
 from exam_desk.second_sitting import own_code
@@ -86,7 +86,7 @@ def table(label: str, heads: Sequence[str], rows: Iterable[Sequence[object]], ab
 
 def document(reading: Reading, title: str, body: Markup, style: str) -> str:
     """Pages of A4 in a style. Title, time and state are in the foot of each, and on a screen once, above all."""
-    printed = f"printed {reading.office.now():%Y-%m-%d %H:%M:%S}, state {reading.mark}"
+    printed = f"printed {reading.office.now():%Y-%m-%d %H:%M:%S}, state {on_paper.mark(reading)}"
     quoted = re.sub(r"[^\w ,.:-]", lambda sign: rf"\{ord(sign[0]):x} ", f"{title}, {printed}")  # as a text of a style
     styles = "".join(f"\n{(STYLES / f'{name}.css').read_text('utf-8')}" for name in ("paper", style))
     return str(html(DOCUMENT, title, printed, Markup(quoted), Markup(styles), body))

@@ -13,7 +13,7 @@ from collections import Counter
 from collections.abc import Callable, Collection, Iterator
 
 from exam_desk import appeals, facts, lists, notebook, overlaps
-from exam_desk.lists import has_words, letters
+from exam_desk.lists import letters
 from exam_desk.office import Trouble
 from exam_desk.reading import Person, Reading, Sitting
 from exam_desk.snapshot import Rows
@@ -34,11 +34,12 @@ COMPARED = 12  # sheets at most that the program prints too
 
 
 def find(rows: Rows, asked: str) -> list[Person]:
-    """The candidates with this number, or with all these words in their names, by name."""
+    """The candidates with this number, or with all these words in their names, by name. No words find nobody."""
     if re.fullmatch("[0-9]{1,7}", asked):
         return [Person(*row) for row in rows.execute(f"{CANDIDATES} WHERE number = ?", [int(asked)])]
     words = letters(asked).split()
-    return lists.by_name(Person(*row) for row in rows.execute(CANDIDATES) if has_words(letters(row["name"]), words))
+    return lists.by_name(Person(*row) for row in (rows.execute(CANDIDATES) if words else ())
+                         if all(map(letters(row["name"]).__contains__, words)))
 
 
 def asked_lines(reading: Reading, asked: str, codes: bool) -> list[str]:
