@@ -7,7 +7,8 @@ port or a socket that cannot be had. What it does with the locks of `turns`, aga
     1. It waits for want.lock, then for office.lock; where candidates wait meanwhile, it takes turn.lock for them.
     2. It begins `serve`, and lets go of want.lock: from then on a command can ask it to step aside.
     3. It hands requests on. Once those who waited have their answers, or after TURN_SECONDS, it lets go of turn.lock.
-    4. When a command asks, the day ends or `serve` fails, it ends `serve`, and lets go of office.lock.
+    4. When a command asks, the day ends, `serve` fails or another file is in the place of the office, it ends `serve`,
+       and lets go of office.lock.
 """
 import asyncio
 import contextlib
@@ -106,14 +107,15 @@ class Keep:
             return "" if self.ending else await self.serve_once(want, turn)
 
     async def serve_once(self, want: FileIO, turn: FileIO) -> str:
-        """Runs one `serve`, with the office alone; gives its fault, or "". No length of a night is reckoned, so a
-        missing midnight or a set clock does no harm."""
+        """Runs one `serve`, with the office alone, as long as its file has the name; gives its fault, or "". No length of a
+        night is reckoned, so a missing midnight or a set clock does no harm."""
         self.hold.over.clear()  # a command wants the office only while it holds want.lock
         self.hold.fault = ""
         if (day := self.office.today()) != self.day:
             say(f"the day is {day} now")
             self.day = day
         self.keep_day()
+        file = file_at(self.office.path)
         with running.begun(self.office, self.office.path, port := asking.free_port()) as process:
             ended = asyncio.create_task(asyncio.to_thread(last_complaint, process))
             ended.add_done_callback(lambda _: self.hold.over.set())
@@ -121,7 +123,7 @@ class Keep:
             fault = "serve cannot be watched"
             try:
                 want.close()
-                while not self.hold.over.is_set() and self.office.today() == day:
+                while not self.hold.over.is_set() and (self.office.today(), file_at(self.office.path)) == (day, file):
                     with contextlib.suppress(TimeoutError):
                         await asyncio.wait_for(self.hold.over.wait(), DAY_PAUSE)
                     if opening.done():
@@ -156,6 +158,14 @@ class Keep:
                 say(f"copy of the day in {path}")
         except (OSError, Trouble) as fault:
             say(f"no copy of the day: {fault.strerror if isinstance(fault, OSError) and fault.strerror else fault}")
+
+
+def file_at(path: str) -> tuple[int, int] | None:
+    """Which file has a path, since another can be put in its place, such as that of a backup; None where none has."""
+    with contextlib.suppress(OSError):
+        found = os.stat(path)
+        return found.st_dev, found.st_ino
+    return None
 
 
 def last_complaint(process: subprocess.Popen[bytes]) -> str:
