@@ -221,22 +221,15 @@ def losses(office: Office, copy: str) -> list[Said]:
     if not os.path.exists(office.path):
         return []
     try:
-        with attached(office, copy) as both:
+        with contextlib.ExitStack() as stack:
+            paths = [stack.enter_context(private.private_copy(path, office.path))
+                     for path in (office.path, file_in(office, copy))]
+            both = stack.enter_context(contextlib.closing(sqlite3.connect(":memory:")))
+            for moment, path in zip(("now", "other"), paths):
+                both.execute(f"ATTACH ? AS {moment}", [path])
             candidates, brought, alike = both.execute(CANDIDATES).fetchone()
             lost = appeals.lost(both)
     except (OSError, sqlite3.Error):
         return [Said(UNKNOWN, {})]
     is_other = 2 * alike < (candidates if is_brought(copy) else min(candidates, brought))
     return [Said(OTHERS, {"alike": alike, "candidates": candidates}), *lost] if is_other else lost
-
-
-@contextlib.contextmanager
-def attached(office: Office, copy: str) -> Iterator[sqlite3.Connection]:
-    """A connection to a private copy of the office, which is `now` in it, and to one of a copy, the `other`."""
-    with contextlib.ExitStack() as stack:
-        paths = [stack.enter_context(private.private_copy(path, office.path))
-                 for path in (office.path, file_in(office, copy))]
-        both = stack.enter_context(contextlib.closing(sqlite3.connect(":memory:")))
-        for moment, path in zip(("now", "other"), paths):
-            both.execute(f"ATTACH ? AS {moment}", [path])
-        yield both
