@@ -203,11 +203,15 @@ def ready(office: Office, copy: str) -> Iterator[str]:
 
 
 def move_in(office: Office, path: str) -> None:
-    """Moves a file that is ready into the place of the office, with the office alone. It takes no room on the disk."""
+    """Moves a file that is ready into the place of the office, with the office alone. It takes no room on the disk.
+    Raises `Trouble` where a process has the file that is there open, and would go on with that."""
     place = os.path.realpath(office.path)
     if os.path.exists(place):
-        with contextlib.suppress(sqlite3.Error):  # what is damaged, or has no room, is in a copy
+        try:
             in_one_file(place)
+        except sqlite3.Error as fault:  # what is damaged, or has no room, is in a copy
+            if fault.sqlite_errorcode == sqlite3.SQLITE_BUSY:
+                raise Trouble("another process has it, such as `office serve`: end that first", place) from fault
     for ending in ("-wal", "-shm", "-journal"):  # of the old file alone: the new one shares none of them
         pathlib.Path(place + ending).unlink(missing_ok=True)
     beside.sync(os.path.dirname(place))
