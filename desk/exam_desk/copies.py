@@ -88,8 +88,7 @@ def file_in(office: Office, folder: str) -> str:
 def drop(copy: str) -> None:
     """Removes a copy. It becomes a private folder that nobody uses first: of who is killed then no part of it is left
     among the copies, where it would be an older office without its second file."""
-    desk, name = os.path.split(os.path.dirname(copy))[0], os.path.basename(copy)
-    gone = os.path.join(desk, private.PLACE, private.PREFIX + name)
+    gone = os.path.join(os.path.dirname(copy), os.pardir, private.PLACE, private.PREFIX + os.path.basename(copy))
     with contextlib.suppress(OSError):
         os.rename(copy, gone)
         shutil.rmtree(gone, ignore_errors=True)

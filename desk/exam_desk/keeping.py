@@ -107,7 +107,7 @@ class Keep:
             return "" if self.ending else await self.serve_once(want, turn)
 
     async def serve_once(self, want: FileIO, turn: FileIO) -> str:
-        """Runs one `serve`, with the office alone, as long as its file has the name; gives its fault, or "". No length of a
+        """Runs one `serve`, with the office alone, while its file has the name; gives its fault, or "". No length of a
         night is reckoned, so a missing midnight or a set clock does no harm."""
         self.hold.over.clear()  # a command wants the office only while it holds want.lock
         self.hold.fault = ""
@@ -115,7 +115,7 @@ class Keep:
             say(f"the day is {day} now")
             self.day = day
         self.keep_day()
-        file = file_at(self.office.path)
+        file = os.stat(self.office.path).st_ino
         with running.begun(self.office, self.office.path, port := asking.free_port()) as process:
             ended = asyncio.create_task(asyncio.to_thread(last_complaint, process))
             ended.add_done_callback(lambda _: self.hold.over.set())
@@ -123,7 +123,8 @@ class Keep:
             fault = "serve cannot be watched"
             try:
                 want.close()
-                while not self.hold.over.is_set() and (self.office.today(), file_at(self.office.path)) == (day, file):
+                while (not self.hold.over.is_set() and self.office.today() == day
+                       and os.stat(self.office.path).st_ino == file):  # another can be put in its place, or none
                     with contextlib.suppress(TimeoutError):
                         await asyncio.wait_for(self.hold.over.wait(), DAY_PAUSE)
                     if opening.done():
@@ -158,14 +159,6 @@ class Keep:
                 say(f"copy of the day in {path}")
         except (OSError, Trouble) as fault:
             say(f"no copy of the day: {fault.strerror if isinstance(fault, OSError) and fault.strerror else fault}")
-
-
-def file_at(path: str) -> tuple[int, int] | None:
-    """Which file has a path, since another can be put in its place, such as that of a backup; None where none has."""
-    with contextlib.suppress(OSError):
-        found = os.stat(path)
-        return found.st_dev, found.st_ino
-    return None
 
 
 def last_complaint(process: subprocess.Popen[bytes]) -> str:

@@ -168,7 +168,7 @@ class Kept(sample.KeptSchool):
         serve = self.served_by()
         os.rename(self.path, f"{self.path}.moved")
         sample.until(lambda: has_ended(serve))
-        sample.until(lambda: "refused 24" in self.state().get("state", ""))
+        sample.until(lambda: "No such file" in self.state().get("state", ""))
         os.rename(f"{self.path}.moved", self.path)
         self.assertEqual(self.appeal("HA1"), (200, {"state": "open"}))
         self.assertEqual(self.stored(), [("HA1", 1)])
