@@ -89,9 +89,10 @@ def drop(copy: str) -> None:
     """Removes a copy. It becomes a private folder that nobody uses first: of who is killed then no part of it is left
     among the copies, where it would be an older office without its second file."""
     gone = os.path.join(os.path.dirname(copy), os.pardir, private.PLACE, private.PREFIX + os.path.basename(copy))
-    with contextlib.suppress(OSError):
+    with contextlib.suppress(OSError):  # where it cannot be had it goes from where it is
         os.rename(copy, gone)
-        shutil.rmtree(gone, ignore_errors=True)
+        copy = gone
+    shutil.rmtree(copy, ignore_errors=True)
 
 
 def is_as_now(office: Office, copy: str) -> bool:
