@@ -24,16 +24,11 @@ def back(parser: command.Parser) -> command.Plan:
     parser.add_argument("number", metavar="NUMBER", type=int, nargs="?", help="of the list")
     given = command.given(parser, "--yes: do not ask")
     if given.number is None:
-        return list_copies
+        lines = [f"{number:3}  {when}  before {what}" for number, (when, what)
+                 in enumerate(map(copies.when_and_what, copies.listed(command.office())), 1)]
+        return partial(command.say_lines, lines or ["no copies"])
     copy = copies.chosen(command.office(), given.number)
     return programs.Back(title=f"back {given.number}", copy=copy, is_agreed=given.yes)
-
-
-def list_copies() -> None:
-    from exam_desk import copies
-    lines = [f"{number:3}  {when}  before {what}" for number, (when, what)
-             in enumerate(map(copies.when_and_what, copies.listed(command.office())), 1)]
-    command.say_lines(lines or ["no copies"])
 
 
 @command.named("""\

@@ -248,7 +248,13 @@ def of_program(words: list[str]) -> Change | None:
     with a mistake."""
     match words:
         case ["withdraw" | "reinstate" as name, "--list", path]:
-            return of_list(name, path)
+            rows, wrong = listed.rows_of(command.existing_office(), name, path)
+            if wrong:
+                command.complain(wrong)
+                raise Trouble("nothing is changed")
+            about = changing.named("entries", (tuple(map(str.encode, step.words[1:])) for step in rows.values()))
+            title = " ".join([name, "--list", os.path.basename(path), *about])
+            return List(steps=[*rows.values()], title=title, rows=rows)
         case ["withdraw", number, "--all"]:
             rows = listed.of_candidate(command.office(), number)
             return List(steps=[*rows.values()], title=f"withdraw {rows[1].words[1]} --all", rows=rows)
@@ -263,16 +269,6 @@ def of_program(words: list[str]) -> Change | None:
     with contextlib.suppress(OSError):  # the program says so of an import
         data = files.read(path, command.warn)  # before the office is taken
     return Change(steps=[Step(tuple(words), data)])
-
-
-def of_list(name: str, path: str) -> List:
-    """Withdraws or reinstates the entries of a file."""
-    rows, wrong = listed.rows_of(command.existing_office(), name, path)
-    if wrong:
-        command.complain(wrong)
-        raise Trouble("nothing is changed")
-    about = changing.named("entries", (tuple(map(str.encode, step.words[1:])) for step in rows.values()))
-    return List(steps=[*rows.values()], title=" ".join([name, "--list", os.path.basename(path), *about]), rows=rows)
 
 
 def refuse(answers: list[Answered]) -> None:

@@ -107,29 +107,26 @@ def text_of(office: str, name: str, most: int = LAST_BYTES) -> str:
 
 
 def opened(path: str, flags: int, outer: int | None = None) -> int:
-    """Opens the last name of a path, in an open folder if there is one. What it raises names the whole path."""
+    """Opens the last name of a path, in an open folder if there is one; `Strange` where what it opens is not to be
+    trusted. What it raises names the whole path."""
     try:
         file = os.open(path if outer is None else os.path.basename(path), flags | SAFELY, 0o600, dir_fd=outer)
     except OSError as fault:
         if fault.errno in LINKS:
             raise Strange(f"{path} {LINKS[fault.errno]}") from None
         raise OSError(fault.errno, fault.strerror, path) from None
-    if wrong := strange(os.fstat(file), flags):
+    found, wrong = os.fstat(file), ""
+    if found.st_uid != os.geteuid():
+        wrong = (f"belongs to {user_name(found.st_uid)}: if it is the office's, `chown -R {user_name(os.geteuid())}:` "
+                 "it; otherwise move it away")
+    elif found.st_mode & OTHERS:
+        wrong = "can be written by others: look what they left, then `chmod go-w` it, or move it away"
+    elif not flags & os.O_DIRECTORY and not stat.S_ISREG(found.st_mode):
+        wrong = NO_FILE
+    if wrong:
         os.close(file)
         raise Strange(f"{path} {wrong}")
     return file
-
-
-def strange(found: os.stat_result, flags: int) -> str:
-    """Why what was opened is not to be trusted; nothing where it is."""
-    if found.st_uid != os.geteuid():
-        return (f"belongs to {user_name(found.st_uid)}: if it is the office's, `chown -R {user_name(os.geteuid())}:` "
-                "it; otherwise move it away")
-    if found.st_mode & OTHERS:
-        return "can be written by others: look what they left, then `chmod go-w` it, or move it away"
-    if not flags & os.O_DIRECTORY and not stat.S_ISREG(found.st_mode):
-        return NO_FILE
-    return ""
 
 
 def refuse_strange(path: str) -> None:

@@ -312,12 +312,13 @@ def restore(office: Office, ready: str, copy: str, outcome: logbook.Outcome) -> 
     """Puts the copy back in the turn in which it was made, and it goes; once that is done the log says so."""
     try:
         with whole():
-            copies.move_in(office, ready)
+            if not copies.is_as_now(office, copy):
+                copies.move_in(office, ready)
             outcome.answer = f"all is as before: {outcome.answer}"
             copies.drop(copy)
-    except OSError as fault:
-        raise Trouble(f"a step failed, and the office could not be put back as it was ({fault.strerror}): "
-                      f"{way_back(copy)}") from fault
+    except (OSError, Trouble) as fault:
+        raise Trouble("a step failed, and the office could not be put back as it was "
+                      f"({getattr(fault, 'strerror', fault)}): {way_back(copy)}") from fault
 
 
 def way_back(copy: str) -> str:

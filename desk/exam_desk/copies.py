@@ -88,11 +88,11 @@ def file_in(office: Office, folder: str) -> str:
 def drop(copy: str) -> None:
     """Removes a copy. It becomes a private folder that nobody uses first: of who is killed then no part of it is left
     among the copies, where it would be an older office without its second file."""
-    desk, name = os.path.split(os.path.dirname(copy))[0], os.path.basename(copy)
-    gone = os.path.join(desk, private.PLACE, private.PREFIX + name)
-    with contextlib.suppress(OSError):
+    gone = os.path.join(os.path.dirname(copy), os.pardir, private.PLACE, private.PREFIX + os.path.basename(copy))
+    with contextlib.suppress(OSError):  # where it cannot be had it goes from where it is
         os.rename(copy, gone)
-        shutil.rmtree(gone, ignore_errors=True)
+        copy = gone
+    shutil.rmtree(copy, ignore_errors=True)
 
 
 def is_as_now(office: Office, copy: str) -> bool:
@@ -203,11 +203,15 @@ def ready(office: Office, copy: str) -> Iterator[str]:
 
 
 def move_in(office: Office, path: str) -> None:
-    """Moves a file that is ready into the place of the office, with the office alone. It takes no room on the disk."""
+    """Moves a file that is ready into the place of the office, with the office alone. It takes no room on the disk.
+    Raises `Trouble` where a process has the file that is there open, and would go on with that."""
     place = os.path.realpath(office.path)
     if os.path.exists(place):
-        with contextlib.suppress(sqlite3.Error):  # what is damaged, or has no room, is in a copy
+        try:
             in_one_file(place)
+        except sqlite3.Error as fault:  # what is damaged, or has no room, is in a copy
+            if fault.sqlite_errorcode == sqlite3.SQLITE_BUSY:
+                raise Trouble("another process has it, such as `office serve`: end that first", place) from fault
     for ending in ("-wal", "-shm", "-journal"):  # of the old file alone: the new one shares none of them
         pathlib.Path(place + ending).unlink(missing_ok=True)
     beside.sync(os.path.dirname(place))
@@ -221,22 +225,15 @@ def losses(office: Office, copy: str) -> list[Said]:
     if not os.path.exists(office.path):
         return []
     try:
-        with attached(office, copy) as both:
+        with contextlib.ExitStack() as stack:
+            paths = [stack.enter_context(private.private_copy(path, office.path))
+                     for path in (office.path, file_in(office, copy))]
+            both = stack.enter_context(contextlib.closing(sqlite3.connect(":memory:")))
+            for moment, path in zip(("now", "other"), paths):
+                both.execute(f"ATTACH ? AS {moment}", [path])
             candidates, brought, alike = both.execute(CANDIDATES).fetchone()
             lost = appeals.lost(both)
     except (OSError, sqlite3.Error):
         return [Said(UNKNOWN, {})]
     is_other = 2 * alike < (candidates if is_brought(copy) else min(candidates, brought))
     return [Said(OTHERS, {"alike": alike, "candidates": candidates}), *lost] if is_other else lost
-
-
-@contextlib.contextmanager
-def attached(office: Office, copy: str) -> Iterator[sqlite3.Connection]:
-    """A connection to a private copy of the office, which is `now` in it, and to one of a copy, the `other`."""
-    with contextlib.ExitStack() as stack:
-        paths = [stack.enter_context(private.private_copy(path, office.path))
-                 for path in (office.path, file_in(office, copy))]
-        both = stack.enter_context(contextlib.closing(sqlite3.connect(":memory:")))
-        for moment, path in zip(("now", "other"), paths):
-            both.execute(f"ATTACH ? AS {moment}", [path])
-        yield both

@@ -3,7 +3,7 @@ import contextlib
 import itertools
 import os
 import time
-from collections.abc import Callable, Iterator
+from collections.abc import Callable
 from io import FileIO
 
 from exam_desk import changing, copies, facts, files, lists, logbook, mistakes, refusals, snapshot, turns
@@ -60,7 +60,10 @@ def carry_out(office: Office, title: str, rows: Rows, tell: Tell) -> changing.Ca
         with contextlib.ExitStack() as whole:
             while not is_over(rows, answers):
                 with changing.unchanged(office, answers), changing.turn(office, title) as lock:
-                    copy = copy or whole.enter_context(locked_copy(office, title))
+                    if not copy:
+                        copy = copies.keep_copy(office, title)
+                        title_file = open(os.path.join(copy, copies.TITLE), "rb", buffering=0)
+                        turns.try_lock(whole.enter_context(title_file))  # says that the list is not over
                     with logbook.logged(office, [title], answer=os.path.basename(copy)) as outcome:
                         in_one_turn(office, lock, rows, answers, tell)
                         outcome.status = 0 if is_over(rows, answers) else logbook.STEP
@@ -74,15 +77,6 @@ def carry_out(office: Office, title: str, rows: Rows, tell: Tell) -> changing.Ca
             raise
         raise Trouble(f"the rows from line {[*rows][len(answers)]} on are not carried out: {fault}") from fault
     return changing.Carried(answers, copies.kept_if_other(office, copy), None)
-
-
-@contextlib.contextmanager
-def locked_copy(office: Office, title: str) -> Iterator[str]:
-    """The path of a new copy; a lock on its title says, between two turns too, that the list is under way."""
-    copy = copies.keep_copy(office, title)
-    with open(os.path.join(copy, copies.TITLE), "rb", buffering=0) as lock:
-        turns.try_lock(lock)
-        yield copy
 
 
 def in_one_turn(office: Office, lock: FileIO, rows: Rows, answers: list[Answered], tell: Tell) -> None:

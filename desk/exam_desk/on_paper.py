@@ -3,7 +3,7 @@ import hashlib
 import itertools
 import re
 from collections.abc import Collection, Iterable, Mapping
-from typing import Any, NamedTuple
+from typing import NamedTuple
 
 from exam_desk import facts, lists, logbook, notebook, overlaps, second_sitting, words
 from exam_desk.office import Office
@@ -77,14 +77,11 @@ def noted(office: Office, session: str) -> tuple[dict[str, Line], dict[str, str]
     """What was printed for a session: lines by number, and what they share, as `shared` has it. None of either where
     nobody said that it was."""
     found = notebook.read(office, f"printed.{session}") or {}  # in those of earlier versions "noted" stands beside all
-    return ({number: line_of(parts) for number, parts in found.items() if number.isdigit()},
+    whole = len(Line._fields)  # of what a line has; those of the first version have the desk alone
+    lines = {number: Line(*parts[:2 if len(parts) < whole - 1 else whole])
+             for number, parts in found.items() if number.isdigit()}
+    return ({number: line._replace(note=sum_of(line.note)) for number, line in lines.items()},
             {what: parts[0] for what, parts in found.items() if OF in what})
-
-
-def line_of(parts: list[Any]) -> Line:
-    """What a file says of somebody; files of earlier versions have less."""
-    line = Line(*parts[:2]) if len(parts) < len(Line._fields) - 1 else Line(*parts[:len(Line._fields)])
-    return line._replace(note=sum_of(line.note))
 
 
 def lines_of(reading: Reading, session: str, among: Collection[str] | None = None) -> dict[str, Line]:

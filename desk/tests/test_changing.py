@@ -592,6 +592,29 @@ class Killed(Changing):
         self.assertEqual(kill_rehearsals(self, ["take", self.facts()], KILLS, SEED), KILLS)
 
 
+class BesideServe(Changing):
+    def test_no_other_file_takes_the_place_of_the_one_that_is_served(self):
+        """A candidate who is told that an appeal is lodged would have lodged it in a file that nobody finds again."""
+        self.office("withdraw", "0001000", "MA-1")
+        facts, before, kept = self.facts(), os.stat(self.path).st_ino, self.kept()
+        with subprocess.Popen(self.value.line("serve", str(sample.free_port())), stdout=subprocess.PIPE) as process:
+            try:
+                process.stdout.readline()
+                with mock.patch("exam_desk.refusals.patience", lambda _: 0):
+                    carried = changing.carry_out(self.value, STEPS[1:])
+                self.assertEqual(([answered.first_line() for answered in carried.answers], self.log()[-1][-1]), (
+                    ["refused 23"], "all is as before: close-hall MON-AM GYM: refused 23"))
+                self.assertIn("office: nothing is changed\n", self.run_office("take", facts, "--yes").stderr)
+                self.assertRegex(self.refused("back", "1", "--yes"), "office.db: another process has it, such as `office serve`: "
+                                                                     "end that first\n$")
+                with self.assertRaisesRegex(Trouble, "could not be put back as it was .*another process has it.*`office back` lists"):
+                    changing.restore(self.value, "", kept[0], logbook.Outcome())  # it began to serve between two steps
+            finally:
+                process.terminate()
+        self.assertEqual((os.stat(self.path).st_ino, self.kept()), (before, kept))
+        self.office("back", "1", "--yes")
+
+
 class Taking(Changing):
     def test_a_folder(self):
         facts, before = self.facts(), self.state()

@@ -4,6 +4,7 @@ import contextlib
 import dataclasses
 import datetime
 import os
+import shutil
 import signal
 import socket
 import sqlite3
@@ -152,6 +153,32 @@ class Kept(sample.KeptSchool):
                 client = silent.enter_context(socket.create_connection(("127.0.0.1", self.port)))
                 client.sendall(b"GET /candidates/" if place % 2 else b"")
             self.assertEqual(self.ask()[0], 200)
+
+    def test_files_that_somebody_put_in_their_place(self):
+        """What a candidate lodges after that is in the office that all others see, not in one that nobody finds again."""
+        for ending in "", "-wal":
+            shutil.copy2(self.path + ending, f"{self.path}.backup{ending}")
+        for work in os.rename, shutil.copyfile:
+            self.assertEqual(self.appeal("HA1"), (200, {"state": "open"}))
+            serve = self.served_by()
+            for ending in "", "-wal":
+                work(shutil.copy2(f"{self.path}.backup{ending}", f"{self.path}.restored"), self.path + ending)
+            sample.until(lambda: has_ended(serve) and self.served_by() != serve)
+            self.assertEqual(self.ask("GET", "appeals")[1]["appeals"], [])
+        self.assertEqual(self.appeal("HA2"), (200, {"state": "open"}))
+        self.assertEqual(self.stored(), [("HA2", 1)])
+        with open(os.path.join(self.desk, "keep.log"), encoding="utf-8") as log:
+            self.assertIn(" somebody has put other files in the place of the office\n", log.read())
+
+    def test_an_office_that_was_moved_away(self):
+        """Nobody lodges anything in it any more; once it is back it is served again."""
+        serve = self.served_by()
+        os.rename(self.path, f"{self.path}.moved")
+        sample.until(lambda: has_ended(serve))
+        sample.until(lambda: "No such file" in self.state().get("state", ""))
+        os.rename(f"{self.path}.moved", self.path)
+        self.assertEqual(self.appeal("HA1"), (200, {"state": "open"}))
+        self.assertEqual(self.stored(), [("HA1", 1)])
 
     def test_a_missing_second_file(self):
         self.office("keep", "stop")
