@@ -213,9 +213,9 @@ class Table:
         """What the cells that are merged downwards say for the rows below their first."""
         filled, covered = dict[tuple[int, int], Cell](), 0
         for top, left, bottom, right in self.sheet.merged:
-            covered += max(1, min(bottom, self.last) - top)
+            covered += 1 + sum(1 + len(self.below.get(row, ())) for row in range(top, min(bottom, self.last) + 1))
             if covered > MOST_MERGED:
-                raise Trouble(f"its merged cells cover more than {MOST_MERGED:,} rows")
+                raise Trouble(f"its merged cells cover more than {MOST_MERGED:,} cells")
             if bottom >= self.header.row and any(left <= place <= right for place in self.places):
                 filled |= self.filled_by(top, left, bottom, right)
         return filled
