@@ -1,5 +1,4 @@
 """The tables of a workbook: what their headers say, which of their rows count, and what their cells say."""
-import functools
 import re
 from collections.abc import Iterator, Mapping
 from dataclasses import dataclass
@@ -11,7 +10,7 @@ from exam_desk.workbook.cells import MOST_MERGED, Cell, Sheet, letters_of, place
 from exam_desk.workbook.headers import (HEADER_WORDS, MARKED, OF_PEOPLE, Given, Header, find_header, folded,
                                         heads_of, is_called_list, seen)
 from exam_desk.workbook.tables import Job, Record
-from exam_desk.workbook.values import (AS_TEXT, MAY_BE_EMPTY, NEAR, NO_DAY, SHORT_FEATURES, STRUCK, UNREAD, Wrong, bare,
+from exam_desk.workbook.values import (AS_TEXT, NEAR, NO_DAY, SHORT_FEATURES, STRUCK, UNREAD, Wrong, bare,
                                        mark_of, shown_of)
 from exam_desk.words import FEATURES
 
@@ -89,13 +88,12 @@ class Table:
 
     def tell_above(self) -> None:
         """What stands above the header is not read; a row of the table or another header there is a mistake."""
-        row, columns = self.header.row, self.header.columns
+        row = self.header.row
         above = sorted((other, cells) for other, cells in self.sheet.rows.items() if other < row)
         if above:
             self.note(row, None, "is taken as the header; what stands above it is not read")
         for other, cells in above:
-            is_row = len(columns) > 1 and all(place in cells and self.job.said(name, cells[place])
-                                              for name, [place, *_] in columns.items())
+            is_row = 1 < len(self.places) and self.places <= cells.keys() and self.is_whole(cells)
             if is_row or self.begins_other(other, cells):
                 self.mistake(other, None, f"stands above the header in row {row}: put it below, or delete it", "above")
 
@@ -273,12 +271,9 @@ class Table:
         keys = [here[places[0]] for name, places in self.header.columns.items() if name in files.KEYS[self.kind]]
         return any(map(says_total, keys)) or not all(keys) and any(map(says_total, cells.values()))
 
-    def is_whole(self, here: Row) -> bool:
-        """Whether a row has all that a row of its kind must have, and its key is one."""
-        columns = self.header.columns
-        return all(name in MAY_BE_EMPTY or any(here[place] for place in columns.get(name, []))
-                   and (name not in files.KEYS[self.kind] or self.job.said(name, here[columns[name][0]]))
-                   for name in files.HEADERS[self.kind])
+    def is_whole(self, cells: Row) -> bool:
+        """Whether a row has a value in each column, or one that may be empty."""
+        return all(self.job.said(name, cells.get(place)) for name, [place, *_] in self.header.columns.items())
 
     # -- what a row says
 
@@ -359,7 +354,6 @@ class Table:
         return f"; {where} above has {value}: fill it down if it counts here too"
 
 
-@functools.lru_cache(1 << 16)
 def says_total(cell: Cell | None) -> bool:
     """Whether a cell says that its row is a total, such as `Total`, `Summe der Plätze` or `Sum: 24`."""
     return cell is not None and TOTAL.fullmatch(bare(cell.text[:100]).lower()) is not None

@@ -19,7 +19,6 @@ TAGS = {MAIN + name: name for name in ("row", "col", "mergeCell", "sheetFormatPr
 CELL, VALUE, FORMULA, INLINE = MAIN + "c", MAIN + "v", MAIN + "f", MAIN + "is"
 TEXTS = ("s", "str", "inlineStr")  # shared, the result of a formula, in the cell
 TRUE = ("1", "true")
-PENDING = Cell("pending", "", "", True)  # a formula that nobody has computed
 Letters = tuple[str, bool]  # a text in which nothing is left to be turned, and whether a part of it is struck out
 
 
@@ -155,7 +154,7 @@ class Reader:
         kind, text, struck = part.get("t", "n"), part.findtext(VALUE), False
         formula = part.find(FORMULA) is not None
         if formula and not text and (text is None or kind not in TEXTS):
-            return PENDING
+            return Cell("pending", "", "", True)
         if kind == "inlineStr":
             inside = part.find(INLINE)
             text, struck = ("", False) if inside is None else letters_of(inside)
