@@ -88,14 +88,13 @@ class Table:
 
     def tell_above(self) -> None:
         """What stands above the header is not read; a row of the table or another header there is a mistake."""
-        row = self.header.row
-        above = sorted((other, cells) for other, cells in self.sheet.rows.items() if other < row)
+        above = sorted((row, cells) for row, cells in self.sheet.rows.items() if row < self.header.row)
         if above:
-            self.note(row, None, "is taken as the header; what stands above it is not read")
-        for other, cells in above:
+            self.note(self.header.row, None, "is taken as the header; what stands above it is not read")
+        for row, cells in above:
             is_row = 1 < len(self.places) and self.places <= cells.keys() and self.is_whole(cells)
-            if is_row or self.begins_other(other, cells):
-                self.mistake(other, None, f"stands above the header in row {row}: put it below, or delete it", "above")
+            if is_row or self.begins_other(row, cells):
+                self.mistake(row, None, f"stands above the header in row {self.header.row}: put it below, or delete it")
 
     def tell_names(self) -> None:
         """From which columns values are read, where a header has another word, or two could be one."""
@@ -141,7 +140,8 @@ class Table:
                 self.note(row, place, f"column {letters_of(place)} is hidden; it is read")
             elif place not in self.places:
                 name = repr(shown_of(head).strip()) if head else "with no header"
-                self.note(row if head else min(cells), place, f"the column {name} is not read")
+                more = "" if head else f", such as {shown_of(cells[min(cells)])!r}"
+                self.note(row if head else min(cells), place, f"the column {name} is not read{more}")
 
     def fault_of(self, place: int, head: Cell | None, cells: Mapping[int, Cell]) -> str:
         """What is wrong with a column that has this header, or none, and these cells below it; or ''."""
