@@ -77,8 +77,8 @@ class Table:
             self.note(None, None, f"bears the name of a paper: whom it lists is entered for {self.paper}")
         elif self.kind == "entries" and self.job.way.is_command and is_called_list(self.sheet.name):
             self.mistake(None, None, "is called a list of entries to be withdrawn or reinstated: save it as CSV with "
-                         "the header number,paper for `office withdraw --list FILE.csv`, or call it Entries if they are "
-                         "to be entered")
+                         "the header number,paper for `office withdraw --list FILE.csv`, or call it Entries if they "
+                         "are to be entered")
         self.tell_above()
         if marks:
             self.note(row, min(self.marks), f"crosses below {marks} are read as {MARKED[self.kind]}")
@@ -110,9 +110,9 @@ class Table:
             self.note(self.header.row, None, text)
         for name, places in self.header.twice.items():
             if len(places) > 1:
-                columns, heads = ", ".join(map(letters_of, places)), {folded(self.head[place].text) for place in places}
+                them, heads = ", ".join(map(letters_of, places)), {folded(self.head[place].text) for place in places}
                 cure = "or say which in a file of columns" if len(heads) > 1 else "and call the others otherwise"
-                self.mistake(self.header.row, places[1], f"columns {columns} could all be {name}: keep one header, {cure}")
+                self.mistake(self.header.row, places[1], f"columns {them} could all be {name}: keep one header, {cure}")
 
     def tell_lacking(self) -> None:
         """The columns of the kind that the sheet does not have."""

@@ -192,7 +192,8 @@ def read_code(column: str, cell: Cell, text: str, way: Way) -> Value:
     joined = re.sub(r"\s+", "-" if column in ("session", "paper") else "", code)
     if joined != code and files.RIGHT[column](files.encoded(joined)):
         raise Wrong(f"a space inside: write {joined} if that is meant ({mistakes.CURES[column]})")
-    return Value(code, reason("a dash made a hyphen" * (plain != text), "small letters made capitals" * (code != plain)))
+    done = reason("a dash made a hyphen" * (plain != text), "small letters made capitals" * (code != plain))
+    return Value(code, done)
 
 
 def read_name(column: str, cell: Cell, text: str, way: Way) -> Value:

@@ -11,7 +11,6 @@ from exam_desk.workbook.cells import (MOST_SHEETS, NO_WORKBOOK, OPEN_AND_SAVE, B
                                       local, place_name, whole_day)
 from exam_desk.workbook.numberformats import BUILT_IN, GENERAL, MACINTOSH, WINDOWS, number_cell, text_cell
 
-STRICT = "http://purl.oclc.org/ooxml/"  # begins the names of the elements of another form
 SPACE = "http://schemas.openxmlformats.org/spreadsheetml/2006/main"
 MAIN = f"{{{SPACE}}}"  # before the names of the elements of a sheet
 LINK = "{http://schemas.openxmlformats.org/officeDocument/2006/relationships}id"
@@ -26,7 +25,7 @@ def read_xlsx(archive: zipfile.ZipFile) -> Book:
     """The workbook of a zip; raises `Trouble` or what `child` catches where it cannot be read whole."""
     parts = Parts(archive)
     roots = {name: parts.look(name) for name in sorted(parts.names) if re.search(r"\.(xml|rels)$", name, re.I)}
-    if any(root.startswith(STRICT) for root in roots.values()):
+    if any(root.startswith("http://purl.oclc.org/ooxml/") for root in roots.values()):
         raise Trouble("it is in the form Strict Open XML: save it as an Excel workbook (.xlsx)")
     return Reader(parts, roots).book()
 
