@@ -38,7 +38,7 @@ AN_ERROR = re.compile(r"##+|#[¡¿]?[^\W\d][\w/]*[!?]?|Err:[0-9]+|(?i:null|nan|n
 # But made by a word processor. The joiners \u200c and \u200d belong to names in Persian, Hindi and other languages.
 NOT_TYPED = re.compile("^ | $|[\u00a0\u00ad\u2007\u200b\u202f\u2060\ufeff“”„‟‘’‚‛]").search
 MONTH = "JAN|FEB|MAR|APR|MAY|MAI|JUN|JUL|AUG|SEP|OCT|OKT|NOV|DEC|DEZ"
-LIKE_OTHERS = re.compile(f"[0-9]+E[0-9]+|[1-9][0-9]?0000+|[0-9][0-9]?-({MONTH})|({MONTH})-[0-9][0-9]".encode()).fullmatch
+LIKE_OTHERS = re.compile(f"[0-9]+E[0-9]+|[1-9][0-9]?0000+|[0-9]{{1,2}}-({MONTH})|({MONTH})-[0-9]+".encode()).fullmatch
 SELDOM = {("extra", b"1"): "is 1 percent; 100 percent is 100",  # by column and value
           ("until", b"00:00"): "a hall that is open until 00:00 suits nobody; midnight is 24:00",
           **{("minutes", b"%d" % number): "few minutes for a paper; 2 hours are 120" for number in range(1, 10)}}
