@@ -38,16 +38,10 @@ AN_ERROR = re.compile(r"##+|#[¡¿]?[^\W\d][\w/]*[!?]?|Err:[0-9]+|(?i:null|nan|n
 # But made by a word processor. The joiners \u200c and \u200d belong to names in Persian, Hindi and other languages.
 NOT_TYPED = re.compile("^ | $|[\u00a0\u00ad\u2007\u200b\u202f\u2060\ufeff“”„‟‘’‚‛]").search
 MONTH = "JAN|FEB|MAR|APR|MAY|MAI|JUN|JUL|AUG|SEP|OCT|OKT|NOV|DEC|DEZ"
-LIKE_OTHERS = re.compile(f"[0-9]+E[0-9]+|[1-9][0-9]?0{{4,}}|[0-9]{{1,2}}-({MONTH})|({MONTH})-[0-9]{{2}}".encode()).fullmatch
+LIKE_OTHERS = re.compile(f"[0-9]+E[0-9]+|[1-9][0-9]?0000+|[0-9]{{1,2}}-({MONTH})|({MONTH})-[0-9]+".encode()).fullmatch
 SELDOM = {("extra", b"1"): "is 1 percent; 100 percent is 100",  # by column and value
           ("until", b"00:00"): "a hall that is open until 00:00 suits nobody; midnight is 24:00",
           **{("minutes", b"%d" % number): "few minutes for a paper; 2 hours are 120" for number in range(1, 10)}}
-
-
-class Cure(NamedTuple):
-    """What to do about a wrong value."""
-    text: str
-    write: str = ""  # the value to write in its place, where that is clear
 
 
 class Mistake(NamedTuple):
@@ -55,7 +49,7 @@ class Mistake(NamedTuple):
     column: str  # or `file` or `row`
     value: str  # in quotes; "" where none is named
     text: str
-    write: str = ""  # as in `Cure`
+    write: str = ""  # the value to write in the place of a wrong one, where that is clear
 
     @property
     def what(self) -> str:
@@ -86,7 +80,7 @@ class Found:
         self.count += 1
         self.counts[column] += 1
         if self.counts[column] <= self.most:
-            found = Cure(text) if text or field is None else cure(column, field)
+            found = (text, "") if text or field is None else cure(column, field)
             self.shown.append(Mistake(line, column, "" if field is None else files.shown(field), *found))
 
 
@@ -119,21 +113,21 @@ class Known:
             self.days.update((code.decode("utf-8", "replace"), day.decode("utf-8", "replace")) for code, day, _ in rows)
 
 
-def cure(column: str, field: bytes) -> Cure:
-    """What to do about a wrong value: to write what `office read` makes of such a cell, or what that says of it."""
+def cure(column: str, field: bytes) -> tuple[str, str]:
+    """What to do about a wrong value, and what to write in its place where that is clear: as `office read` has it."""
     from exam_desk.workbook import cells, values  # here, since these ask this module what is right
     if column in NAMES or len(field) > MOST_TO_MEND:
-        return Cure(needed(column, field))
+        return needed(column, field), ""
     text = field.decode("utf-8", "replace").strip(" '")
     try:
         better = values.read_value(column, cells.Cell("text", text, text), values.Way(is_command=False))
     except values.Wrong as fault:
-        return Cure(words.plain(fault))
+        return words.plain(fault), ""
     if column == "code" and not better.text:
-        return Cure("it holds nothing that can be seen: empty it, and a code can be made")
+        return "it holds nothing that can be seen: empty it, and a code can be made", ""
     if better.day:  # nobody has looked whether it is that of the session
-        return Cure(needed(column, field))
-    return Cure(f"write {better.text} ({CURES[column]})", better.text)
+        return needed(column, field), ""
+    return f"write {better.text} ({CURES[column]})", better.text
 
 
 def no_codes(count: int) -> str:
@@ -197,18 +191,8 @@ class File:
         self.first: dict[tuple[bytes, ...], files.Record] = {}  # the first record of each key
 
     def looked_through(self, rows: Iterable[files.Record]) -> tuple[Found, Found]:
-        """The mistakes of its rows and the notes on them; what they bring is known afterwards, if they are all."""
-        self.look_at(rows)
-        if self.wrong.counts["file"]:
-            self.known.keys[self.kind] = None
-        else:
-            self.note_unknown()
-            self.known.take(self.kind, [record.fields for record in self.first.values()])
-            self.note_together()
-        return self.wrong, self.notes
-
-    def look_at(self, rows: Iterable[files.Record]) -> None:
-        """Looks at all rows, unless too many are wrong."""
+        """The mistakes of its rows, unless too many are wrong, and the notes on them; what they bring is known
+        afterwards, if they are all."""
         for record in rows:
             if fault := fault_of(record, len(self.header)):
                 self.wrong.add(record.line, "row", fault)
@@ -217,6 +201,15 @@ class File:
             if self.wrong.count >= MOST_COUNTED:
                 self.wrong.add(record.line, "file", f"{MOST_COUNTED:,} mistakes; what is behind them is not looked at")
                 break
+        if self.wrong.counts["file"]:
+            self.known.keys[self.kind] = None
+            return self.wrong, self.notes
+        for column, _, table in self.columns if self.first else ():
+            if table and not self.known.keys[table]:
+                self.notes.add(1, column, f"no {table} are known, so these are not compared")
+        self.known.take(self.kind, [record.fields for record in self.first.values()])
+        self.note_together()
+        return self.wrong, self.notes
 
     def look_at_values(self, record: files.Record) -> None:
         """Looks at each value alone, and whether what it refers to is known."""
@@ -246,12 +239,6 @@ class File:
             return False
         self.wrong.add(record.line, "row", f"{self.place(first.line)} has the same key and other contents: keep one")
         return True
-
-    def note_unknown(self) -> None:
-        """Notes what the rows refer to and nobody knows."""
-        for column, _, table in self.columns if self.first else ():
-            if table and not self.known.keys[table]:
-                self.notes.add(1, column, f"no {table} are known, so these are not compared")
 
     def note_together(self) -> None:
         """Notes what each row is beside the others, and beside what is known."""

@@ -59,4 +59,4 @@ def cure(name: str, word: str) -> str:
     from exam_desk import mistakes  # here, since a wrong word alone needs it
     if name in NEEDED:
         return NEEDED[name]
-    return mistakes.cure(name, word.encode("utf-8", "surrogateescape")).text.replace(OF_A_SHEET, "")
+    return mistakes.cure(name, word.encode("utf-8", "surrogateescape"))[0].replace(OF_A_SHEET, "")

@@ -27,7 +27,6 @@ from exam_web.wording import said, shown, text
 MOST_MEMBERS, MOST_NAME = 64, 80  # of a zip with the files before it; letters that are shown
 NO_TABLE = (".pdf", ".doc", ".docx", ".odt", ".rtf", ".pages", ".numbers", ".jpg", ".jpeg", ".png", ".gif", ".webp",
             ".heic")
-HIDDEN = (".", "~$")  # how names begin of what macOS adds, and of what Excel keeps beside a workbook that is open
 
 
 @dataclass
@@ -79,9 +78,9 @@ def taken(storages: Iterable[FileStorage], way: Way, hidden: str) -> Upload:
 
 
 def bare(path: str) -> str:
-    """The name of a file without its folders; "" for one that is hidden."""
+    """The name of a file without its folders; "" for what macOS adds, or Excel keeps beside a workbook that is open."""
     name = PureWindowsPath(path).name
-    return "" if name.startswith(HIDDEN) else name
+    return "" if name.startswith((".", "~$")) else name
 
 
 def parts(upload: Upload, storages: Iterable[FileStorage]) -> Iterator[tuple[str, bytes, int]]:

@@ -239,7 +239,7 @@ class Words(unittest.TestCase):
                 found.add(line, "minutes", field=b"x")
             lines = [*mistakes.lines_on("c.csv", found, "")]
             self.assertEqual((5 + more, last), (len(lines), lines[-1]))
-        self.assertEqual("a whole number from 1 to 600", mistakes.cure("minutes", 199 * b"0" + b"90").text)  # a long value has none
+        self.assertEqual("a whole number from 1 to 600", mistakes.cure("minutes", 199 * b"0" + b"90")[0])  # a long value has none
 
     def test_lost_zeros_are_told_of_a_row_that_is_there_with_them(self):
         found, notes = self.mistakes_in("entries", b"number,paper\n0001000,MA-1\n1000,MA-1\n0001000,MA-1\n")
@@ -295,7 +295,7 @@ class Words(unittest.TestCase):
                 ("minutes", b"1 h 30", "90"), ("extra", b"", "0"), ("needs", b"Screen, reader", "screen+reader"),
                 ("start", b"2027-06-07 09:00", ""), ("start", b"'9:00 ", "09:00"),
                 ("date", b"Mo 7 June 2027", "2027-06-07"), ("date", b"M 7 June 2027", ""), ("date", b"Tue 7 June 2027", "")):
-            self.assertEqual(mistakes.cure(column, value).write, write, (column, value))
+            self.assertEqual(mistakes.cure(column, value)[1], write, (column, value))
 
     def test_empty_codes_are_counted_with_their_cure_and_are_not_compared(self):
         text = b"number,name,code\n0001000,Ada Lin,\n0001017,Ada Lin,\n"
@@ -312,7 +312,7 @@ class Words(unittest.TestCase):
         for column, value, cure in (
                 ("needs", "\x1b[2Jbed\u202e", "?[2jbed is none of the features ("),
                 ("paper", "ma\x0b \n1", "a space inside: write MA-1 if that is meant (")):
-            self.assertTrue(mistakes.cure(column, value.encode()).text.startswith(cure), (column, value))
+            self.assertTrue(mistakes.cure(column, value.encode())[0].startswith(cure), (column, value))
 
     def test_notes_for_a_human_eye(self):
         text = ("number,name,code\n0000001,FranÃ§ois,CODE0001\n0000002,Bo Berg,CODE0002\n0000003,Bo Berg,CODE0002\n"

@@ -265,8 +265,14 @@ class Limits(unittest.TestCase):
     def test_merged_cells_have_a_limit(self) -> None:
         for merge in ["A2:A3", "B2:B4"], ["A2:B2", "A3:B3", "A8:B9"]:
             book = unpacked(child.read(rawbook.xlsx(cases.candidates(cases.ADA, [], [], cases.BO, merge=merge))))
-            with mock.patch("exam_desk.workbook.rows.MOST_MERGED", 2), self.assertRaisesRegex(Trouble, "cells cover more than 2 rows"):
+            with mock.patch("exam_desk.workbook.rows.MOST_MERGED", 2), self.assertRaisesRegex(Trouble, "cells cover more than 2 cells"):
                 read_book(book, Job(Known()))
+
+    def test_merged_cells_in_wide_rows_take_no_minutes(self) -> None:
+        """Thousands of them over one row of thousands of cells."""
+        book = rawbook.xlsx(cases.sheet("Candidates", cases.CANDIDATES, [*cases.ADA, *3000 * ["x"]], merge=3000 * ["A2:A3"]))
+        with self.assertRaisesRegex(Trouble, "cells cover more than 1,000,000 cells"):
+            read_book(unpacked(child.read(book)), Job(Known()))
 
 
 class Numbers(unittest.TestCase):

@@ -51,7 +51,6 @@ HEADER_WORDS = {(kind, column): {column, *WORDS.get(column, "").split(), *OF_KIN
                 for kind, header in files.HEADERS.items() for column in header}
 FIRST_NAME = "firstname firstnames givenname forename vorname".split()
 LAST_NAME = "lastname surname familyname nachname".split()
-LISTS = re.compile("withdr|reinstat|ab(ge)?meld|rücktritt")  # begin the names of lists of entries that bring in none
 OF_PEOPLE = {"name", *WORDS["name"].split(), *FIRST_NAME, *LAST_NAME}
 MARKED = {"papers": "requires", "halls": "features", "arrangements": "needs", "entries": "paper"}  # or crosses
 
@@ -98,8 +97,8 @@ def columns_of(heads: Mapping[str, list[int]], words: Iterable[str]) -> list[int
 
 
 def is_called_list(name: str) -> bool:
-    """Whether a file or a sheet is called withdrawals, reinstatements or the like."""
-    return LISTS.match(folded(name)) is not None
+    """Whether a file or a sheet is called withdrawals, reinstatements or the like, and so brings in no entries."""
+    return re.match("withdr|reinstat|ab(ge)?meld|rücktritt", folded(name)) is not None
 
 
 def match_header(kind: str, row: int, heads: Mapping[str, list[int]], given: Given, names: Sequence[str]) -> Header:

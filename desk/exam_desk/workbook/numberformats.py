@@ -6,10 +6,8 @@ import re
 
 from exam_desk.workbook.cells import Cell, whole_day
 
-LAST_SERIAL = 2_950_000  # a day in the year 9976
 MOST_NUMBER = 10 ** 15  # a spreadsheet keeps fifteen digits
 MOST_FORM = 1000  # letters of a number format; a spreadsheet takes 255
-LONG_NUMBER = 10 ** 11  # from here on the format General shows a power of ten
 WINDOWS, MACINTOSH = datetime.datetime(1899, 12, 30), datetime.datetime(1904, 1, 1)  # the day 0
 GENERAL = "General"
 BUILT_IN = {  # formats by number; each machine has dates and a currency of its own
@@ -56,7 +54,7 @@ def moment_cell(number: decimal.Decimal, form: str, kind: str, epoch: datetime.d
     seconds = round(number * 86_400)
     if kind == "elapsed":
         return Cell("time", clock_text(seconds), "")
-    if not 0 <= number < LAST_SERIAL:
+    if not 0 <= number < 2_950_000:  # a day in the year 9976
         return Cell("number", str(number), "")
     when = epoch + datetime.timedelta(seconds=seconds)
     shown = when.strftime(AS_THE_FILES.get(form.partition(";")[0].replace("\\", "").lower(), ""))
@@ -122,8 +120,8 @@ def literal(token: str) -> str:
 
 def shown_token(token: str, number: decimal.Decimal) -> str:
     """What a piece of a number format shows; raises `Unknown`."""
-    if token.lower() == "general":
-        return f"{float(number):.5E}" if number >= LONG_NUMBER else format(number, "f")
+    if token.lower() == "general":  # it shows a power of ten where a number has more than 11 digits
+        return f"{float(number):.5E}" if number >= 10 ** 11 else format(number, "f")
     if token[0] not in "0#":
         return literal(token)
     match = DIGITS.fullmatch(token.replace("#,##", "#,"))

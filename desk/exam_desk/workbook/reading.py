@@ -80,6 +80,8 @@ def usable_sheets(job: Job, book: Book) -> list[Sheet]:
             (hidden if sheet.hidden and job.sheets is None else usable).append(sheet)
         elif book.form == "csv":
             job.note("is empty, so it is not read", sheet)
+    for sheet in [sheet for sheet in usable if sheet.hidden]:
+        job.note("is hidden and read, as you said", sheet)
     job.papers = named_papers(job, usable)
     tell_hidden(job, usable, hidden)
     return usable

@@ -1,5 +1,4 @@
 """The tables of a workbook: what their headers say, which of their rows count, and what their cells say."""
-import functools
 import re
 from collections.abc import Iterator, Mapping
 from dataclasses import dataclass
@@ -11,7 +10,7 @@ from exam_desk.workbook.cells import MOST_MERGED, Cell, Sheet, letters_of, place
 from exam_desk.workbook.headers import (HEADER_WORDS, MARKED, OF_PEOPLE, Given, Header, find_header, folded,
                                         heads_of, is_called_list, seen)
 from exam_desk.workbook.tables import Job, Record
-from exam_desk.workbook.values import (AS_TEXT, MAY_BE_EMPTY, NEAR, NO_DAY, SHORT_FEATURES, STRUCK, UNREAD, Wrong, bare,
+from exam_desk.workbook.values import (AS_TEXT, NEAR, NO_DAY, SHORT_FEATURES, STRUCK, UNREAD, Wrong, bare,
                                        mark_of, shown_of)
 from exam_desk.words import FEATURES
 
@@ -78,8 +77,8 @@ class Table:
             self.note(None, None, f"bears the name of a paper: whom it lists is entered for {self.paper}")
         elif self.kind == "entries" and self.job.way.is_command and is_called_list(self.sheet.name):
             self.mistake(None, None, "is called a list of entries to be withdrawn or reinstated: save it as CSV with "
-                         "the header number,paper for `office withdraw --list FILE.csv`, or call it Entries if they are "
-                         "to be entered")
+                         "the header number,paper for `office withdraw --list FILE.csv`, or call it Entries if they "
+                         "are to be entered")
         self.tell_above()
         if marks:
             self.note(row, min(self.marks), f"crosses below {marks} are read as {MARKED[self.kind]}")
@@ -89,15 +88,13 @@ class Table:
 
     def tell_above(self) -> None:
         """What stands above the header is not read; a row of the table or another header there is a mistake."""
-        row, columns = self.header.row, self.header.columns
-        above = sorted((other, cells) for other, cells in self.sheet.rows.items() if other < row)
+        above = sorted((row, cells) for row, cells in self.sheet.rows.items() if row < self.header.row)
         if above:
-            self.note(row, None, "is taken as the header; what stands above it is not read")
-        for other, cells in above:
-            is_row = len(columns) > 1 and all(place in cells and self.job.said(name, cells[place])
-                                              for name, [place, *_] in columns.items())
-            if is_row or self.begins_other(other, cells):
-                self.mistake(other, None, f"stands above the header in row {row}: put it below, or delete it", "above")
+            self.note(self.header.row, None, "is taken as the header; what stands above it is not read")
+        for row, cells in above:
+            is_row = 1 < len(self.places) and self.places <= cells.keys() and self.is_whole(cells)
+            if is_row or self.begins_other(row, cells):
+                self.mistake(row, None, f"stands above the header in row {self.header.row}: put it below, or delete it")
 
     def tell_names(self) -> None:
         """From which columns values are read, where a header has another word, or two could be one."""
@@ -113,9 +110,9 @@ class Table:
             self.note(self.header.row, None, text)
         for name, places in self.header.twice.items():
             if len(places) > 1:
-                columns, heads = ", ".join(map(letters_of, places)), {folded(self.head[place].text) for place in places}
+                them, heads = ", ".join(map(letters_of, places)), {folded(self.head[place].text) for place in places}
                 cure = "or say which in a file of columns" if len(heads) > 1 else "and call the others otherwise"
-                self.mistake(self.header.row, places[1], f"columns {columns} could all be {name}: keep one header, {cure}")
+                self.mistake(self.header.row, places[1], f"columns {them} could all be {name}: keep one header, {cure}")
 
     def tell_lacking(self) -> None:
         """The columns of the kind that the sheet does not have."""
@@ -143,7 +140,8 @@ class Table:
                 self.note(row, place, f"column {letters_of(place)} is hidden; it is read")
             elif place not in self.places:
                 name = repr(shown_of(head).strip()) if head else "with no header"
-                self.note(row if head else min(cells), place, f"the column {name} is not read")
+                more = "" if head else f", such as {shown_of(cells[min(cells)])!r}"
+                self.note(row if head else min(cells), place, f"the column {name} is not read{more}")
 
     def fault_of(self, place: int, head: Cell | None, cells: Mapping[int, Cell]) -> str:
         """What is wrong with a column that has this header, or none, and these cells below it; or ''."""
@@ -213,9 +211,9 @@ class Table:
         """What the cells that are merged downwards say for the rows below their first."""
         filled, covered = dict[tuple[int, int], Cell](), 0
         for top, left, bottom, right in self.sheet.merged:
-            covered += max(1, min(bottom, self.last) - top)
+            covered += 1 + sum(1 + len(self.below.get(row, ())) for row in range(top, min(bottom, self.last) + 1))
             if covered > MOST_MERGED:
-                raise Trouble(f"its merged cells cover more than {MOST_MERGED:,} rows")
+                raise Trouble(f"its merged cells cover more than {MOST_MERGED:,} cells")
             if bottom >= self.header.row and any(left <= place <= right for place in self.places):
                 filled |= self.filled_by(top, left, bottom, right)
         return filled
@@ -273,12 +271,9 @@ class Table:
         keys = [here[places[0]] for name, places in self.header.columns.items() if name in files.KEYS[self.kind]]
         return any(map(says_total, keys)) or not all(keys) and any(map(says_total, cells.values()))
 
-    def is_whole(self, here: Row) -> bool:
-        """Whether a row has all that a row of its kind must have, and its key is one."""
-        columns = self.header.columns
-        return all(name in MAY_BE_EMPTY or any(here[place] for place in columns.get(name, []))
-                   and (name not in files.KEYS[self.kind] or self.job.said(name, here[columns[name][0]]))
-                   for name in files.HEADERS[self.kind])
+    def is_whole(self, cells: Row) -> bool:
+        """Whether a row has a value in each column, or one that may be empty."""
+        return all(self.job.said(name, cells.get(place)) for name, [place, *_] in self.header.columns.items())
 
     # -- what a row says
 
@@ -359,7 +354,6 @@ class Table:
         return f"; {where} above has {value}: fill it down if it counts here too"
 
 
-@functools.lru_cache(1 << 16)
 def says_total(cell: Cell | None) -> bool:
     """Whether a cell says that its row is a total, such as `Total`, `Summe der Plätze` or `Sum: 24`."""
     return cell is not None and TOTAL.fullmatch(bare(cell.text[:100]).lower()) is not None

@@ -23,7 +23,6 @@ OTHER_LETTERS: dict[str, Callable[[str], str]] = {  # what is done to letters be
 DASHES = dict.fromkeys(map(ord, "\u2010\u2011\u2012\u2013\u2014\u2212"), "-")
 GROUPS = re.compile(r"(?<=[0-9])[ ,.'\u00a0\u202f](?=[0-9]{3}(?![0-9]))")
 NUMBER = re.compile(r"-?[0-9]+(\.[0-9]+)?")
-QUOTES = tuple("'\u2018\u2019`\u00b4")
 YES = {"yes", "y", "true", "1", "x", "✓", "✔", "ja", "j", "wahr", "oui", "vrai", "si", "sí"}
 NO = {"no", "n", "false", "0", "-", "nein", "falsch", "non", "faux", ""}
 NONE = {"", "-", "none", "no", "keine"}
@@ -67,7 +66,6 @@ UNREAD = {  # the kinds that no column takes
 REFUSED = UNREAD | {  # what is said of a kind where a column does not take it
     "date": f"a spreadsheet made a date of it: {AGAIN}", "time": f"a spreadsheet made a time of it: {AGAIN}",
     "bool": f"a spreadsheet made TRUE or FALSE of it: {AGAIN}", "percent": f"it is a percentage: {AGAIN}"}
-MAY_BE_EMPTY = {"requires", "features", "needs", "extra", "reserved", "code"}  # columns in which that is a value
 STRUCK = "is struck out: delete the row, or take the line away if it counts"
 
 
@@ -173,7 +171,7 @@ def mark_of(cell: Cell | None) -> str:
 # -- numbers of candidates, codes and names
 
 def read_number(column: str, cell: Cell, text: str, way: Way) -> Value:
-    quoted = cell.kind == "text" and text.startswith(QUOTES)
+    quoted = cell.kind == "text" and text[:1] in {*"'\u2018\u2019`\u00b4"}
     digits = text[1:] if quoted else text
     padded = mistakes.with_zeros(files.encoded(digits)).decode("utf-8", "surrogatepass")
     if re.fullmatch(r"[1-9][0-9]{0,2}[ ,.'’][0-9]{3}|[1-9][ ,.'’][0-9]{3}[ ,.'’][0-9]{3}", digits):
@@ -194,7 +192,8 @@ def read_code(column: str, cell: Cell, text: str, way: Way) -> Value:
     joined = re.sub(r"\s+", "-" if column in ("session", "paper") else "", code)
     if joined != code and files.RIGHT[column](files.encoded(joined)):
         raise Wrong(f"a space inside: write {joined} if that is meant ({mistakes.CURES[column]})")
-    return Value(code, reason("a dash made a hyphen" * (plain != text), "small letters made capitals" * (code != plain)))
+    done = reason("a dash made a hyphen" * (plain != text), "small letters made capitals" * (code != plain))
+    return Value(code, done)
 
 
 def read_name(column: str, cell: Cell, text: str, way: Way) -> Value:

@@ -11,7 +11,6 @@ from exam_desk.workbook.cells import (MOST_SHEETS, NO_WORKBOOK, OPEN_AND_SAVE, B
                                       local, place_name, whole_day)
 from exam_desk.workbook.numberformats import BUILT_IN, GENERAL, MACINTOSH, WINDOWS, number_cell, text_cell
 
-STRICT = "http://purl.oclc.org/ooxml/"  # begins the names of the elements of another form
 SPACE = "http://schemas.openxmlformats.org/spreadsheetml/2006/main"
 MAIN = f"{{{SPACE}}}"  # before the names of the elements of a sheet
 LINK = "{http://schemas.openxmlformats.org/officeDocument/2006/relationships}id"
@@ -19,7 +18,6 @@ TAGS = {MAIN + name: name for name in ("row", "col", "mergeCell", "sheetFormatPr
 CELL, VALUE, FORMULA, INLINE = MAIN + "c", MAIN + "v", MAIN + "f", MAIN + "is"
 TEXTS = ("s", "str", "inlineStr")  # shared, the result of a formula, in the cell
 TRUE = ("1", "true")
-PENDING = Cell("pending", "", "", True)  # a formula that nobody has computed
 Letters = tuple[str, bool]  # a text in which nothing is left to be turned, and whether a part of it is struck out
 
 
@@ -27,7 +25,7 @@ def read_xlsx(archive: zipfile.ZipFile) -> Book:
     """The workbook of a zip; raises `Trouble` or what `child` catches where it cannot be read whole."""
     parts = Parts(archive)
     roots = {name: parts.look(name) for name in sorted(parts.names) if re.search(r"\.(xml|rels)$", name, re.I)}
-    if any(root.startswith(STRICT) for root in roots.values()):
+    if any(root.startswith("http://purl.oclc.org/ooxml/") for root in roots.values()):
         raise Trouble("it is in the form Strict Open XML: save it as an Excel workbook (.xlsx)")
     return Reader(parts, roots).book()
 
@@ -155,7 +153,7 @@ class Reader:
         kind, text, struck = part.get("t", "n"), part.findtext(VALUE), False
         formula = part.find(FORMULA) is not None
         if formula and not text and (text is None or kind not in TEXTS):
-            return PENDING
+            return Cell("pending", "", "", True)
         if kind == "inlineStr":
             inside = part.find(INLINE)
             text, struck = ("", False) if inside is None else letters_of(inside)

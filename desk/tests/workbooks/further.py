@@ -181,6 +181,8 @@ case("toml-cannot-say-which", xlsx(sheet("Candidates", ["number", "Name", "name"
      mistakes=[["Candidates!C1", "columns B, C could all be name: keep one header, and call the others otherwise"]])
 case("toml-can-say-which", xlsx(sheet("Candidates", ["number", "Full name", "name", "code"], ["0000001", "Ada", "Bo", "CODE0001"])), 1, only=True,
      mistakes=[["Candidates!C1", "columns B, C could all be name: keep one header, or say which in a file of columns"]])
+case("csv-comma-in-a-name", b"number,name\n0000001,Lin, Ada\n0000002,Berg, Bo\n", suffix="csv", files={"candidates": ["0000001,Lin,", "0000002,Berg,"]},
+     told=[["'further-csv-comma-in-a-name'!C2", "the column with no header is not read, such as ' Ada'"]])
 case("code-like-day", xlsx(sheet("Halls", ["hall", "title", "features"], ["1MAR", "A", "-"]), sheet("Sessions",
      SESSIONS, ["1-MAR", "2027-06-01", "09:00"], ["MAR-27", "2027-06-02", "09:00"], ["3-okt", "2027-06-03",
      "09:00"])), files={"halls":["1MAR,A,-"], "sessions":["1-MAR,2027-06-01,09:00", "MAR-27,2027-06-02,09:00",

@@ -207,7 +207,8 @@ case("list-of-a-paper-hidden", xlsx(TWO_PAPERS, sheet("FR", ["number"], ["000000
      mistakes=[["FR", "is hidden: show it if it has the entries"]])
 case("one-list-of-a-paper-hidden", xlsx(TWO_PAPERS, sheet("FR", ["number"], ["0000001"], state="hidden"), sheet("MA-1", ["number"], ["0000001"])),
      files={"papers": ["MA-1,Maths,S1,90,-", "FR,French,S1,60,-"], "entries": ["0000001,MA-1"]}, told=[["FR", "is hidden, so it is not read"]])
-case("sheet-named-and-hidden", xlsx(candidates(ADA), PUPILS | {"state": "hidden"}), files={"candidates": [BO_LINE]}, args=["--sheet", "Pupils"])
+case("sheet-named-and-hidden", xlsx(candidates(ADA), PUPILS | {"state": "hidden"}), files={"candidates": [BO_LINE]}, args=["--sheet", "Pupils"],
+     told=[["Pupils", "is hidden and read, as you said"]])
 case("sheets-that-are-not-there", xlsx(candidates(ADA)), 1, args=["--sheet", "Pupils", "--leave", "candidates"],
      mistakes=[["", "there is no sheet Pupils, candidates; there are: Candidates"]])
 case("columns-of-sheets", xlsx(sheet("Pupils 2027", ["Nr", *CANDIDATES[1:]], ADA), sheet("Alumni", ["Nr", *CANDIDATES[1:]], BO), sheet("Plan", CANDIDATES[:2], BO[:2])),
