@@ -91,7 +91,7 @@ class There(SecondSitting):
         self.second("0000003", "MA-2", "13:00", "R12")
         self.assertEqual(self.told("MON-AM")["0000003"], ["stay with them: MA-1 at 10:30 in R14"])
         self.assertEqual(self.told("MON-AM-2"), {"0000003": [
-            "stay with them: MA-2 at 13:00 in R12", "watched since 10:30, comes from R14"]})
+            "watched since 10:30, comes from R14", "stay with them: MA-2 at 13:00 in R12"]})
         self.assertEqual(self.told("MON-AM-3"), {"0000003": ["watched since 12:30, comes from R14"]})
 
     def test_who_sits_something_else_before_the_second_sitting(self):
@@ -102,7 +102,7 @@ class There(SecondSitting):
         for number in ("0000002", "0000003"):
             self.second(number, "MA-1", "16:00", "R12")
         between = self.told("MON-PM")
-        self.assertEqual(between.pop("0000003"), ["stay with them: MA-1 at 16:00 in R12", "watched since 10:30, comes from R14"])
+        self.assertEqual(between.pop("0000003"), ["watched since 10:30, comes from R14", "stay with them: MA-1 at 16:00 in R12"])
         self.assertEqual({*map(len, between.values())}, {0})
         hall = self.seats("MON-PM")["0000003"][1]
         self.assertEqual(self.told("MON-AM")["0000003"], [f"stay with them: EN-1 at 13:30 in {hall}"])
