@@ -25,7 +25,7 @@ SESSIONS_THEN = ("SELECT session.code FROM session JOIN opening ON session = cod
                  "WHERE day = ? AND start = ? AND hall = ? ORDER BY code")
 OPENED = ("SELECT desks, until, reserved, (SELECT count(*) FROM seat WHERE (session, hall) = (opening.session, "
           "opening.hall)) FROM opening WHERE session = ? AND hall = ?")
-UNLIKE = ("SELECT max(one.live IS NULL), max(one.live <> 1) FROM entry LEFT JOIN entry AS one "
+UNLIKE = ("SELECT max(one.live IS NULL), 2 * sum(one.live <> 1) >= count(*) FROM entry LEFT JOIN entry AS one "
           "ON one.number = entry.number AND one.paper = ? WHERE entry.paper = ? AND entry.live = 1")
 CLOSED = (0, 24 * 60, False, 0)  # as OPENED says it of a hall that is to be open until the end of the day
 SAT = "SELECT 1 FROM entry WHERE paper = ? AND live = 1"
@@ -123,13 +123,12 @@ def free_code(rows: Rows, table: str, first: str) -> str:
 
 def first_papers(rows: Rows, second: sqlite3.Row) -> list[sqlite3.Row]:
     """The papers of which a paper may have been made for second sittings: each of its candidates has an entry for that
-    one, and one or more have it withdrawn. Where nobody has, as when a second sitting is taken back, the title says it.
-    """
+    one, and half of them or more have it withdrawn. Where fewer have, or nobody sits it any more, the title says it."""
     found, stem = [], second["code"].rpartition("-")[0]  # `~` is behind all letters of codes
     for first in rows.execute(f"{PAPERS} WHERE paper.code BETWEEN ?1 AND ?1 || '~'", [stem]) if stem else []:
         if all(is_numbered(second[name], first[name]) for name in ("code", "session")):
-            has_strangers, has_withdrawn = rows.execute(UNLIKE, [first["code"], second["code"]]).fetchone()
-            if not has_strangers and (has_withdrawn or second["title"] == first["title"]):
+            has_strangers, are_withdrawn = rows.execute(UNLIKE, [first["code"], second["code"]]).fetchone()
+            if not has_strangers and (are_withdrawn or second["title"] == first["title"]):
                 found.append(first)
     return found
 
