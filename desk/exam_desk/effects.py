@@ -107,12 +107,15 @@ class Effects:
 
     def notes(self) -> list[str]:
         """How it is noted that somebody did not come, where the change takes somebody out of a session on its day or
-        later."""
-        days = {code: day for code, day, _ in facts.sessions(self.after.rows)}
+        later; and of which sessions that have another day it is noted who was absent."""
+        was, days = ({code: day for code, day, _ in facts.sessions(each.rows)} for each in (self.before, self.after))
         left = [each for each in self.kinds.get("leaves", [])
                 if not notebook.is_to_come(self.after.office, days.get(each.session, "9"))]
-        return [f"NOTE: who only did not come stays entered: `office absent {each.session} {each.number}` notes it"
-                for each in left[:1]]
+        return [*(f"NOTE: who only did not come stays entered: `office absent {each.session} {each.number}` notes it"
+                  for each in left[:1]),
+                *(f"NOTE: absences of {code} are noted from {was[code]}: `office absent {code} --there NUMBER` takes one "
+                  "back" for code in notebook.sessions_with(self.after.office, "absent")
+                  if code in was and was[code] != days.get(code, was[code]))]
 
 
 def over(effects: Effects) -> dict[str, tuple[str, int]]:
