@@ -40,9 +40,10 @@ def subject(row: sqlite3.Row) -> str:
 
 
 def open_lines(rows: Rows, today: str, sessions: Collection[str] = ()) -> list[str]:
-    """Two lines on each open appeal of these sessions, or of all, the most urgent first."""
+    """Two lines on each open appeal of these sessions, or of all, the most urgent first; last what is too late."""
     asked, lines = {head["code"] for head in facts.sessions(rows, sessions)}, []
-    for row in (row for row in rows.execute(OPEN) if row["session"] in asked):
+    found = (row for row in rows.execute(OPEN) if row["session"] in asked)
+    for row in sorted(found, key=lambda row: bool(row["day"] <= today)):
         last = last_day(row["day"])
         urgency = f"too late since {row['day']}" if today > last else f"decide by {last}"
         lines += [f"{urgency}: {row['session']} {row['number']:07} {row['name']}: {row['ref']} of {row['lodged']}: "

@@ -23,7 +23,6 @@ FIGURES = ("SELECT code, coalesce(entered, 0), coalesce(seated, 0) FROM session 
 ENTERED = "SELECT session, printf('%07d', number) FROM entry JOIN paper ON code = paper WHERE live = 1"
 UNSEATED = f"{ENTERED} EXCEPT SELECT session, printf('%07d', number) FROM seat"  # who is, and has no seat there
 AT_ONCE = f"{ENTERED} GROUP BY session, number HAVING count(*) > 1"  # who has two live entries in a session
-WITHOUT_DESK = ("without a desk",) * 2
 OVER, OPENED, CLASHES, TWICE, HALLS, PRINTED, CODES = ("over", "opened", "clashes", "twice", "halls", "printed",
                                                        "codes")
 OPENINGS = "SELECT session, hall FROM opening ORDER BY session, hall"
@@ -103,16 +102,20 @@ class Effects:
         shown = [f"{len(others[code]):,} in {code}" + (f" (before {len(was[code]):,})" if was[code] else "")
                  for code in sorted(others, key=lambda code: len(others[code]), reverse=True)]
         who = [*itertools.chain(*others.values())]
-        return [f"{counted(WITHOUT_DESK, who)}: {few(shown, most or len(shown))}"] if who else []
+        return [f"{counted(('without a desk',) * 2, who)}: {few(shown, most or len(shown))}"] if who else []
 
     def notes(self) -> list[str]:
         """How it is noted that somebody did not come, where the change takes somebody out of a session on its day or
-        later."""
-        days = {code: day for code, day, _ in facts.sessions(self.after.rows)}
+        later; and of which sessions that have another day it is noted who was absent."""
+        was, days = ({code: day for code, day, _ in facts.sessions(each.rows)} for each in (self.before, self.after))
+        moved = [code for code, day in was.items() if days.get(code, day) != day]
+        noted = notebook.sessions_with(self.after.office, "absent") if moved else []
         left = [each for each in self.kinds.get("leaves", [])
                 if not notebook.is_to_come(self.after.office, days.get(each.session, "9"))]
-        return [f"NOTE: who only did not come stays entered: `office absent {each.session} {each.number}` notes it"
-                for each in left[:1]]
+        return [*(f"NOTE: who only did not come stays entered: `office absent {each.session} {each.number}` notes it"
+                  for each in left[:1]),
+                *(f"NOTE: absences of {code} are noted from {was[code]}: `office absent {code} --there NUMBER` takes "
+                  "one back" for code in moved if code in noted)]
 
 
 def over(effects: Effects) -> dict[str, tuple[str, int]]:

@@ -47,11 +47,6 @@ class Move(NamedTuple):
             return [what for what, old, new in zip(Line._fields, self.printed, self.now) if old != new]
         return ["hall" if self.now else "left"]
 
-    def names(self) -> set[str]:
-        """Those that the session has once more than on paper, or once less."""
-        printed, now = ({line.name} if line else set[str]() for line in (self.printed, self.now))
-        return printed ^ now
-
     def others(self) -> list[Other]:
         """What is another than the desk. Of a note it is said that there is one."""
         both = zip(Line._fields[2:], (self.printed or ())[2:], (self.now or ())[2:])
@@ -130,7 +125,8 @@ def is_of(what: str, halls: Collection[str], papers: Collection[str]) -> bool:
 def out_of_date(office: Office, moves: Collection[Move], others: Iterable[Other], lines: Mapping[str, Line]) -> Papers:
     """The papers that show what is another, each with its halls; charts of those alone whose rows of desks are kept."""
     met = {(kind, line.hall) for move in moves for kind in move.kinds() for line in (move.printed, move.now) if line}
-    names = {lists.alike(name) for move in moves for name in move.names() if name}
+    other = [move for move in moves if not (move.printed and move.now and move.printed.name == move.now.name)]
+    names = {lists.alike(line.name) for move in other for line in (move.printed, move.now) if line and line.name}
     met |= {("namesakes", line.hall) for line in lines.values() if names and lists.alike(line.name) in names}
     met |= {(what if what in OF_SCHOOL.values() else what.partition(OF)[2], line.hall) for what, *_ in others
             for line in lines.values() if is_of(what, [line.hall], [line.paper])}

@@ -9,7 +9,7 @@ from collections.abc import Iterator
 from statistics import mode
 from typing import NamedTuple
 
-from exam_desk import facts, snapshot
+from exam_desk import facts, logbook, snapshot
 from exam_desk.facts import Opening
 from exam_desk.lists import by_desk, count
 from exam_desk.overlaps import of_day
@@ -32,6 +32,7 @@ class Remedy(NamedTuple):
     opening: Opening
     now: Opening | None
     is_more: bool  # whether it has more desks than the hall has in any session
+    closed: str  # the day on which `close-hall` closed it for the session, by the log; "" where it did not
 
 
 class Shortage(NamedTuple):
@@ -62,7 +63,7 @@ class Reasons:
 
     def __init__(self, reading: Reading, session: str) -> None:
         """Raises `Trouble` where there is no such session."""
-        self.session, self.rows = session, reading.rows
+        self.session, self.rows, self.office = session, reading.rows, reading.office
         self.members = reading.members(session)
         self.openings = facts.openings(reading.rows, session)
         self.required = {code: features(mask) for code, mask in reading.rows.execute(
@@ -163,13 +164,14 @@ class Reasons:
 
 
 def best(why: Reasons, sheet: Shortage) -> list[Remedy]:
-    """The first of them, of each hall one for as many seats: more desks than a hall ever had last; of the others those
-    for most, and halls that are open first. None where the halls and the candidates on the sheet are too many."""
+    """The first of them, of each hall one for as many seats: more desks than a hall ever had last, and before these a
+    hall that somebody closed, as when it is lost; of the others those for most, and halls that are open first. None
+    where the halls and the candidates on the sheet are too many."""
     [halls] = why.rows.execute("SELECT count(*) FROM hall").fetchone()
     if halls * len(sheet.candidates) > MOST_PAIRS:
         return []
     found: dict[tuple[int, str], Remedy] = {}
-    for each in sorted(remedies(why, sheet), key=lambda each: (each.is_more, -each.seats, not each.now)):
+    for each in sorted(remedies(why, sheet), key=lambda each: (each.is_more, each.closed, -each.seats, not each.now)):
         found.setdefault((each.seats, each.opening.hall), each)
     return [*found.values()][:MOST_REMEDIES]
 
@@ -181,7 +183,7 @@ def remedies(why: Reasons, sheet: Shortage) -> Iterator[Remedy]:
     listed, opened = set(sheet.candidates), {each.hall: each for each in why.openings}
     people = [member for member in why.members if member.number in listed]
     most = dict(why.rows.execute("SELECT hall, max(desks) FROM opening GROUP BY hall"))
-    helped = sheet.unseated - lacking(why).total()
+    helped, closed = sheet.unseated - lacking(why).total(), logbook.closings(why.office)
     usual = mode(sorted((each.until for each in why.openings), reverse=True) or [0])  # of several the latest
     for code, title, mask in why.rows.execute("SELECT code, title, features FROM hall ORDER BY code"):
         now, taken = opened.get(code), len(why.seated.get(code, ()))
@@ -194,22 +196,20 @@ def remedies(why: Reasons, sheet: Shortage) -> Iterator[Remedy]:
             for seats in {len(ends[:free]) for free in room} - {0}:
                 then = base._replace(until=max(base.until, ends[seats - 1]), reserved=reserved,
                                      desks=max(base.desks, taken + seats))
-                yield Remedy(seats, then, now, now is not None and then.desks > most[code])
+                yield Remedy(seats, then, now, now is not None and then.desks > most[code],
+                             "" if now else closed.get((why.session, code), "")[:10])
 
 
 def what_could_help(why: Reasons, sheet: Shortage) -> list[str]:
     """What no hall has, and the remedies as commands to try; nothing where everybody has a desk."""
     found = [f"  office what-if open-hall {why.session} {then.hall} {then.desks} {clock(then.until)}"
-             f"{' --reserved' * then.reserved}  # could seat up to {seats} of {sheet.unseated}; now {shown(now)}"
-             f"{'; more desks than it ever had' * is_more}"
-             for seats, then, now, is_more in best(why, sheet)]
+             f"{' --reserved' * then.reserved}  # could seat up to {seats} of {sheet.unseated}; now "
+             + (f"{count(now.desks, 'desk')} until {clock(now.until)}{', reserved' * now.reserved}" if now else
+                f"not open{closed and f', closed on {closed}'}") + "; more desks than it ever had" * is_more
+             for seats, then, now, is_more, closed in best(why, sheet)]
     return [*(f"no hall of the office has all of {', '.join(needs)}: needed by {count(people, 'candidate')}"
               for needs, people in lacking(why).items()),
             *(["what could help; only the program knows what it comes to, so try it:"] if found else []), *found]
-
-
-def shown(now: Opening | None) -> str:
-    return f"{count(now.desks, 'desk')} until {clock(now.until)}{', reserved' * now.reserved}" if now else "not open"
 
 
 def lacking(why: Reasons) -> Counter[tuple[str, ...]]:

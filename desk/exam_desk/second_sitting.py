@@ -25,7 +25,7 @@ SESSIONS_THEN = ("SELECT session.code FROM session JOIN opening ON session = cod
                  "WHERE day = ? AND start = ? AND hall = ? ORDER BY code")
 OPENED = ("SELECT desks, until, reserved, (SELECT count(*) FROM seat WHERE (session, hall) = (opening.session, "
           "opening.hall)) FROM opening WHERE session = ? AND hall = ?")
-UNLIKE = ("SELECT max(one.live IS NULL), max(one.live <> 1) FROM entry LEFT JOIN entry AS one "
+UNLIKE = ("SELECT max(one.live IS NULL), 2 * sum(one.live <> 1) >= count(*) FROM entry LEFT JOIN entry AS one "
           "ON one.number = entry.number AND one.paper = ? WHERE entry.paper = ? AND entry.live = 1")
 CLOSED = (0, 24 * 60, False, 0)  # as OPENED says it of a hall that is to be open until the end of the day
 SAT = "SELECT 1 FROM entry WHERE paper = ? AND live = 1"
@@ -123,13 +123,12 @@ def free_code(rows: Rows, table: str, first: str) -> str:
 
 def first_papers(rows: Rows, second: sqlite3.Row) -> list[sqlite3.Row]:
     """The papers of which a paper may have been made for second sittings: each of its candidates has an entry for that
-    one, and one or more have it withdrawn. Where nobody has, as when a second sitting is taken back, the title says it.
-    """
+    one, and half of them or more have it withdrawn. Where fewer have, or nobody sits it any more, the title says it."""
     found, stem = [], second["code"].rpartition("-")[0]  # `~` is behind all letters of codes
     for first in rows.execute(f"{PAPERS} WHERE paper.code BETWEEN ?1 AND ?1 || '~'", [stem]) if stem else []:
         if all(is_numbered(second[name], first[name]) for name in ("code", "session")):
-            has_strangers, has_withdrawn = rows.execute(UNLIKE, [first["code"], second["code"]]).fetchone()
-            if not has_strangers and (has_withdrawn or second["title"] == first["title"]):
+            has_strangers, are_withdrawn = rows.execute(UNLIKE, [first["code"], second["code"]]).fetchone()
+            if not has_strangers and (are_withdrawn or second["title"] == first["title"]):
                 found.append(first)
     return found
 
@@ -151,25 +150,20 @@ def elsewhere(reading: Reading, members: Iterable[Member]) -> dict[str, list[str
 def told(made: Mapping[str, sqlite3.Row], starts: Mapping[str, int], sits: Sitting, all_of: Collection[Sitting]
          ) -> Iterator[str]:
     """What invigilators must know: what somebody sits in another session at that time; and that somebody stays with
-    them behind this sitting, or was with them before it, from a first sitting to the last second one of its session."""
-    beside, now = overlaps.beside(starts, sits, all_of), starts[sits.session]
+    them from this sitting to the next, or did from the last, up to the last second sitting of a session."""
+    beside = overlaps.beside(starts, sits, all_of)
     for other in beside:
-        when = f"until {other.finish}" if starts[other.session] < now else f"from {other.start}"
+        when = f"until {other.finish}" if starts[other.session] < starts[sits.session] else f"from {other.start}"
         yield f"sits {other.session} {when}, in {other.hall or 'no hall yet'}"
-    sessions, apart = {each.session for each in all_of}, [each for each in all_of if each not in beside]
+    sessions = {each.session for each in all_of}
     spans = [(starts[first["session"]], starts[each.session]) for each in all_of
              if (first := made.get(each.paper)) and first["session"] in sessions]
-    for other in apart[apart.index(sits) + 1:][:1]:
-        if any(begin <= now < end for begin, end in spans):
+    for one, other in itertools.pairwise(each for each in all_of if each not in beside):
+        if sits in (one, other) and any(begin <= starts[one.session] < end for begin, end in spans):
+            day = f" on {short_day((other if one == sits else one).date)}" if one.date != other.date else ""
             code = made[other.paper]["code"] if other.paper in made else other.paper
-            yield f"stay with them: {code}{day(other, sits)} at {other.start} in {other.hall or 'no hall yet'}"
-    for other in apart[:apart.index(sits)][-1:]:
-        if any(begin < now <= end for begin, end in spans):
-            yield f"watched since {other.finish}{day(other, sits)}, comes from {other.hall or 'no hall'}"
-
-
-def day(other: Sitting, sits: Sitting) -> str:
-    return f" on {short_day(other.date)}" if other.date != sits.date else ""
+            yield (f"stay with them: {code}{day} at {other.start} in {other.hall or 'no hall yet'}" if one == sits else
+                   f"watched since {one.finish}{day}, comes from {one.hall or 'no hall'}")
 
 
 def own_code(rows: Rows, code: str) -> str:

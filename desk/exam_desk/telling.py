@@ -132,8 +132,8 @@ def columns(sitting: Sitting | None) -> list[str]:
 
 def touched(before: Reading, after: Reading, since: str | None = None) -> list[str]:
     """The sessions in order in which the change can meet somebody. Of those before a day, which is today unless another
-    is given, the ones that a row names, and where somebody newly has a desk or none, as the exam board is told: another
-    arrangement or name comes too late for the others."""
+    is given, the ones that a row names, or in which somebody newly has a desk or none, as the exam board hears: another
+    arrangement or name comes too late."""
     day, found = after.office.today().isoformat() if since is None else since, set[str]()
     with contextlib.closing(sqlite3.connect(":memory:")) as both:
         both.execute("PRAGMA temp_store = MEMORY")  # reasons of appeals are in no file of others
@@ -143,8 +143,7 @@ def touched(before: Reading, after: Reading, since: str | None = None) -> list[s
             both.execute("DROP TABLE IF EXISTS temp.different")
             both.execute(f"CREATE TEMP TABLE different AS SELECT * FROM {moment}.{table} EXCEPT "
                          f"SELECT * FROM {other}.{table}")
-            rows = both.execute(SESSIONS[table].format(moment=moment, other=other), {"since": day})
-            found.update(code for code, in rows)
+            found.update(*both.execute(SESSIONS[table].format(moment=moment, other=other), {"since": day}))
     return [code for code in all_sessions(before, after) if code in found]
 
 

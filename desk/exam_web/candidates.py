@@ -137,8 +137,8 @@ def if_granted(number: int, ref: str) -> str:
     plan = decide(MultiDict({"number": str(number), "ref": ref, "outcome": "granted"}))
     with desk().rehearsing:
         proposals.rehearse(plan, desk(), desk().office)
-    hall = view().row("SELECT hall FROM seat WHERE session = ? AND number = ?", [row["session"], number])
-    return render_template("if_granted.html", row=row, e=plan.effects, refusal=plan.against, hall=hall, most=MOST_MOVES)
+    seat = view().row("SELECT hall FROM seat WHERE session = ? AND number = ?", [row["session"], number])
+    return render_template("if_granted.html", row=row, e=plan.effects, refusal=plan.against, seat=seat, most=MOST_MOVES)
 
 
 @clash_pages.get("/clashes", endpoint="page")

@@ -181,7 +181,7 @@ def note_printed(code: str) -> Response:
     """Notes that the sheets are printed, if the office is as the page beside them showed it."""
     Session(code)
     if request.form.get("foot") != (foot := on_paper.mark(view().reading)):
-        told = text("Nothing is noted: the office is not as the page showed it. Print the sheets again.")
+        told = text("Nothing is noted: the office or a note is not as the page showed it. Print the sheets again.")
         return lead("session.page", told, "bad", code=code)
     desks, _ = on_paper.note(office(), view().reading, code)
     told = text("Noted as printed: {desks} of {session}. The foot of each sheet must say state {state}.", session=code,

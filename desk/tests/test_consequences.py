@@ -323,6 +323,17 @@ class Told(sample.SampleSchool):
         self.environment["TODAY"] = "2027-07-01"
         self.assertEqual(self.told("name", "0001051", "Another Name"), [])
 
+    def test_absences_of_another_day(self):
+        """A session is held once more, two days later: who was absent then may be there now."""
+        self.environment["TODAY"] = "2027-06-07"
+        self.office("absent", "MON-AM", "1051")
+        self.office("absent", "MON-PM", "1051")
+        moved = self.write("s.csv", "session,date,start\nMON-AM,2027-06-09,09:00\nMON-PM,2027-06-07,14:00\n")
+        note = "NOTE: absences of MON-AM are noted from 2027-06-07: `office absent MON-AM --there NUMBER` takes one back"
+        would = self.office("what-if", "import", "sessions", moved)
+        self.assertEqual([line for line in would.split("\n") if "NOTE" in line], [note])
+        self.assertEqual(self.told("import", "sessions", moved)[-1], note)
+
     def test_papers_of_a_session_that_is_over(self):
         """0001051 sits in MON-AM and TUE-AM, too. Nobody prints papers of the day before again."""
         for session in ("MON-AM", "TUE-AM"):

@@ -363,6 +363,8 @@ class TestAppeals(DeskSchool):
             self.assertIn("Other appeals 1 ", words)
             words = self.browser.words(f"/appeals/1051/{ref}/if-granted")
             self.assertEqual("It cannot be granted: the day of the session has come, so it is too late" in words, is_late, ref)
+        self.assertEqual(re.findall(r'href="[^"]*/appeals/(\d+/D\d)"', self.browser.get("/appeals")),
+                         ["1051/D2", "1119/D1", "1051/D1"])  # what is too late comes last
         self.assertIn("Other appeals none", self.browser.words("/appeals/1119/D1"))
         page, _ = self.browser.post("/propose/decide", "/appeals/1051/D2", number="0001051", ref="D2", outcome="refused")
         self.browser.post(page + "/do", page)

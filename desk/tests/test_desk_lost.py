@@ -26,6 +26,17 @@ class TestLostHall(DeskSchool):
                                     until="14:00", proposal=page.rsplit("/", 1)[1])
         self.assertRegex(text, 'id="fault-close-lost"[^>]*>the hall is not open for this session')
 
+    def test_a_hall_that_is_lost_is_not_the_first_guess(self):
+        """It could seat most; but the log says that it was closed, and nobody knows here why."""
+        self.office("close-hall", "MON-AM", "GYM")
+        first, *others = [line for line in self.office("why", "MON-AM").split("\n") if " open-hall MON-AM " in line]
+        self.assertIn(" R14 2 14:00  # could seat up to 2 of 26; now not open", first)
+        self.assertRegex(others[0], r" GYM 24 14:00  # could seat up to 24 of 26; now not open, closed on \d{4}-\d\d-\d\d$")
+        self.assertNotIn("closed", "".join([first, *others[1:]]))
+        guesses = self.browser.words("/sessions/MON-AM").partition("What could help")[2].partition("Candidate Sits")[0]
+        self.assertRegex(guesses, r"Open R14 .* Open GYM , Gymnasium , with 24 desks until 14:00 "
+                                  r"could seat up to 24 of the 26 closed on \w+ \d+ \w+ \d+ Rehearse ")
+
     def button(self, page):
         found = re.search('<button class="primary big">(.*?)</button>', self.browser.get(page))[1]
         return re.sub("<[^>]*>", "", found)

@@ -334,6 +334,16 @@ class TestTheDay(DeskSchool):
         self.assertNotIn('"absent"', self.office("absent", "MON-AM"))
         self.assertEqual(self.seats(), before)
 
+    def test_the_list_for_the_exam_board_leads_to_those_of_second_sittings(self):
+        """0001051 sits CS-1 in MON-AM, and LAT later that day: the list of MON-AM lacks this."""
+        said = "Second sittings of its papers are in lists of their own: MON-AM-2"
+        self.assertNotIn(said[:20], self.browser.words("/sessions/MON-AM"))
+        self.office("second-sitting", "0001051", "LAT", "16:00", "R14", "--yes")
+        self.assertIn(said, self.browser.words("/sessions/MON-AM"))
+        card = self.browser.get("/sessions/MON-AM").partition('id="absent"')[2]
+        self.assertIn(f'<a href="{self.browser.prefix}/sessions/MON-AM-2">MON-AM-2</a>', card)
+        self.assertNotIn(said[:20], self.browser.words("/sessions/MON-AM-2"))
+
     def test_on_the_page_of_who_was_absent(self):
         """0001051 has two papers in MON-AM, and sits one; MON-PM is on that day too."""
         self.office("absent", "MON-AM", "0001051")

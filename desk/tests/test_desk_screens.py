@@ -334,7 +334,7 @@ class TestHearing(DeskSchool):
                 (self.done(monday + "/draw", monday, **{"hall": "GYM", "across-GYM": "6", "running-GYM": "down"}),
                  "done: MON-AM", "GYM is drawn so now."),
                 (self.done(monday + "/printed", monday), "done: MON-AM", "Noted as printed: 58 desks of MON-AM"),
-                (self.done(monday + "/printed", monday, state="x"), "Not done: MON-AM", "Nothing is noted: the office")):
+                (self.done(monday + "/printed", monday, foot="x"), "Not done: MON-AM", "Nothing is noted: the office")):
             self.assertEqual(found[0], title)
             self.assertTrue(found[1].startswith(said), found)
         self.assertEqual(self.heard(monday), ("MON-AM", None))  # it is said once

@@ -206,9 +206,9 @@ class Lists(sample.SampleSchool):
         self.change(APPEAL, [1034, "CL1", "MON-AM", 2, "LAT", 0, 0, "", 1, None, "2027-05-03"])
         self.change(APPEAL, [1034, "CL0", "MON-AM", 2, "LAT", 0, 0, "", 4, None, "2027-05-03"])
         self.assertEqual(self.office("appeals-open", TODAY="2027-06-07"),
+                         "decide by 2027-06-07: TUE-AM 0001051 Di Berg: HA1 of 2027-05-02: hall AULA\n    draught?\n"
                          "too late since 2027-06-07: MON-AM 0001034 Cy Ferrari: CL1 of 2027-05-03: clash LAT\n"
-                         "    no reason given\n"
-                         "decide by 2027-06-07: TUE-AM 0001051 Di Berg: HA1 of 2027-05-02: hall AULA\n    draught?\n")
+                         "    no reason given\n")
         self.assertIn("HA1", self.office("appeals-open", "TUE-AM"))
         self.assertNotIn("CL1", self.office("appeals-open", "TUE-AM"))
 

@@ -91,7 +91,7 @@ class There(SecondSitting):
         self.second("0000003", "MA-2", "13:00", "R12")
         self.assertEqual(self.told("MON-AM")["0000003"], ["stay with them: MA-1 at 10:30 in R14"])
         self.assertEqual(self.told("MON-AM-2"), {"0000003": [
-            "stay with them: MA-2 at 13:00 in R12", "watched since 10:30, comes from R14"]})
+            "watched since 10:30, comes from R14", "stay with them: MA-2 at 13:00 in R12"]})
         self.assertEqual(self.told("MON-AM-3"), {"0000003": ["watched since 12:30, comes from R14"]})
 
     def test_who_sits_something_else_before_the_second_sitting(self):
@@ -102,7 +102,7 @@ class There(SecondSitting):
         for number in ("0000002", "0000003"):
             self.second(number, "MA-1", "16:00", "R12")
         between = self.told("MON-PM")
-        self.assertEqual(between.pop("0000003"), ["stay with them: MA-1 at 16:00 in R12", "watched since 10:30, comes from R14"])
+        self.assertEqual(between.pop("0000003"), ["watched since 10:30, comes from R14", "stay with them: MA-1 at 16:00 in R12"])
         self.assertEqual({*map(len, between.values())}, {0})
         hall = self.seats("MON-PM")["0000003"][1]
         self.assertEqual(self.told("MON-AM")["0000003"], [f"stay with them: EN-1 at 13:30 in {hall}"])
@@ -175,10 +175,15 @@ class There(SecondSitting):
             self.assertEqual(second_sitting.own_code(reading.rows, "ZO-2"), "ZO-2")
 
     def test_two_papers_of_the_same_candidates_are_no_second_sitting(self):
-        """Nobody is withdrawn from ZO, and the titles say that they are two papers."""
-        self.enter_numbered("Cats", "Dogs", "0000002,ZO\n0000002,ZO-2\n")
+        """Few are withdrawn from ZO, or nobody, and the titles say that they are two papers."""
+        self.enter_numbered("Cats", "Dogs", "".join(
+            f"{number},ZO\n{number},ZO-2\n" for number in ("0000002", "0000003", "0001000")))
         with Reading(self.value) as reading:
             self.assertEqual(second_sitting.own_code(reading.rows, "ZO-2"), "ZO-2")
+        self.office("withdraw", "0000002", "ZO")  # who sits the other all the same
+        self.office("open-hall", "MON-2", "GYM", "9", "18:00")
+        self.assertIn('"0000003","ZO-2","present"', self.run_office("absent", "MON-2", TODAY="2027-06-22").stdout)
+        self.assertEqual(self.told("MON-2"), {"0000002": [], "0000003": [], "0001000": []})
 
     def test_codes_that_seem_made_of_each_other(self):
         """Codes of 12 letters that end in -2 and -3: no paper was made of a later one, nor of itself."""

@@ -139,15 +139,12 @@ def chart(of: Session) -> Iterator[Markup]:
         if stand := rows.get(opening.hall):
             seated = {sits.desk: html("{} {} {}", fitted(text(name), ON_CHART), number, papers[sits.paper])
                       for number, name, sits in there}
+            desks = joined(html("<tr>{}</tr>\n", joined(
+                html("<td><b>{}</b>{}</td>", place, seated.get(place, FREE)) if place else NO_PLACE for place in line))
+                for line in numbered(opening.desks, stand))
             yield html(CHART, "chart wide" if stand.across > UPRIGHT else "chart", stand.across, text(opening.title),
                        opening.hall, with_school(of.office, of.when, between=". "), of.expected(opening.hall, there),
-                       joined(drawn(line, seated) for line in numbered(opening.desks, stand)))
-
-
-def drawn(line: Iterable[int | None], seated: Mapping[int | None, Markup]) -> Markup:
-    """A row of desks, with who sits there."""
-    return html("<tr>{}</tr>\n", joined(
-        html("<td><b>{}</b>{}</td>", place, seated.get(place, FREE)) if place else NO_PLACE for place in line))
+                       desks)
 
 
 def numbered(desks: int, rows: Rows) -> list[list[int | None]]:
