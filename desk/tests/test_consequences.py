@@ -405,7 +405,7 @@ class Told(sample.SampleSchool):
 
     def test_the_past_is_told_where_another_row_names_it(self):
         """Some get extra time, which comes too late. With a paper of MON-PM that session is told."""
-        rows = "".join(f"{number:07},-,1\n" for number in (1051, 1731, 1017, 1068))
+        rows = "".join(f"{number:07},-,2\n" for number in (1051, 1731, 1017, 1068))
         words = ["import", "arrangements", self.write("arrangements.csv", f"number,needs,extra\n{rows}")]
         self.assertIn("\nnobody sits otherwise\n", self.office("what-if", *words, TODAY="2027-06-09"))
         self.write("papers.csv", "paper,title,session,minutes,requires\nEN-1,English language,MON-PM,95,-\n")
