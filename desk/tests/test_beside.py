@@ -151,6 +151,7 @@ class Copies(Beside):
     def test_the_one_that_is_put_back_stays_until_the_next_change(self):
         with mock.patch("exam_desk.copies.MOST_COPIES", 1):
             first = copies.keep_copy(self.value, "withdraw")
+            subprocess.run(self.value.line("withdraw", "0001000", "MA-1"), check=True, stdout=subprocess.DEVNULL)
             back = changing.go_back(self.value, ["back", "1"], first, lambda lines: True)
             self.assertEqual([back.copy, first], copies.listed(self.value))
             self.assertEqual([copies.keep_copy(self.value, "reinstate")], copies.listed(self.value))
@@ -208,7 +209,7 @@ class Copies(Beside):
         place = events.index(("renamed", self.path))
         self.assertRegex(events[0], "/tmp/office-copy-[^/]*/office.db$")
         self.assertIn(os.path.join(self.desk, "copies"), events[:place])
-        self.assertEqual([name for name in events[:place] if name.endswith("/copies/office.db")], events[1:2])
+        self.assertEqual(len([name for name in events[1:place] if name.endswith("/copies/office.db")]), 1)
         self.assertEqual(events[place - 1:], [self.folder, ("renamed", self.path), self.folder])
         self.assertIn("office.db", os.listdir(kept))
 
