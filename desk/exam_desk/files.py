@@ -122,21 +122,17 @@ def records(text: bytes, comma: bytes = b",") -> Iterator[Record]:
         line = reader.line_num + 1
 
 
-def comma_of(text: bytes) -> bytes:
-    """What parts the columns of a file that is no import: a semicolon, if the first line has one."""
-    return b";" if b";" in re.split(b"[\r\n]", text, maxsplit=1)[0] else b","
-
-
-def below_header(text: bytes, path: str, header: Iterable[str], comma: bytes = b",") -> Iterator[Record]:
-    """The records after the header. Raises `Trouble` where the file is too long, is no UTF-8, or has another header."""
+def below_header(text: bytes, path: str, header: Iterable[str], commas: str = ",") -> Iterator[Record]:
+    """The records after the header, in which one of these commas parts the columns. Raises `Trouble` where the file is
+    too long, is no UTF-8, or has another header."""
     if len(text) > MOST_BYTES:
         raise Trouble(f"is longer than {MOST_BYTES} bytes; split it", path)
-    if line := next((row.line for row in records(text, comma) if not all(map(is_utf_8, row.fields))), 0):
+    if line := next((row.line for row in records(text) if not all(map(is_utf_8, row.fields))), 0):
         raise Trouble(f"line {line}: {NO_UTF_8}; nothing is done", path)
-    rows = records(text, comma)
-    if (first := next(rows, None)) is None or first.fields != tuple(map(str.encode, header)):
-        raise Trouble(f"line 1 must be: {','.join(header)}", path)
-    return rows
+    for rows in (records(text, comma.encode()) for comma in commas):
+        if (first := next(rows, None)) and first.fields == tuple(map(str.encode, header)):
+            return rows
+    raise Trouble(f"line 1 must be: {','.join(header)}", path)
 
 
 def texts_by_number(content: bytes, path: str, column: str, most: int,
@@ -145,7 +141,7 @@ def texts_by_number(content: bytes, path: str, column: str, most: int,
     a semicolon. Zeros before a number may be missing. `Trouble` where it is no such file, a text is too long, or a
     number is not a known one."""
     found: dict[str, str] = {}
-    for row in below_header(content, path, ["number", column], comma_of(content)):
+    for row in below_header(content, path, ["number", column], ",;"):
         wrong, fields = "", [*map(bytes.decode, row.fields)]
         fields[0] = fields[0].zfill(7) if row.fields[0].isdigit() else fields[0]
         if not row.closed or len(fields) != 2:

@@ -25,7 +25,7 @@ def rows_of(office: Office, command: str, path: str) -> tuple[Rows, list[str]]:
     """The rows of a file with the header of entries; a line for each mistake in it. Raises `Trouble` without a row."""
     text = files.read(path, office.warn)
     file = mistakes.File("entries", mistakes.office_knows(office))
-    rows = [*map(file.mended, files.below_header(text, path, files.HEADERS["entries"], files.comma_of(text)))]
+    rows = [*map(file.mended, files.below_header(text, path, files.HEADERS["entries"], ",;"))]
     wrong, _ = file.looked_through(rows)
     if wrong:
         return {}, list(mistakes.lines_on(os.path.basename(path), wrong, ""))

@@ -6,8 +6,6 @@ import re
 
 from exam_desk.workbook.cells import Cell, whole_day
 
-MOST_NUMBER = 10 ** 15  # a spreadsheet keeps fifteen digits
-MOST_FORM = 1000  # letters of a number format; a spreadsheet takes 255
 WINDOWS, MACINTOSH = datetime.datetime(1899, 12, 30), datetime.datetime(1904, 1, 1)  # the day 0
 GENERAL = "General"
 BUILT_IN = {  # formats by number; each machine has dates and a currency of its own
@@ -33,7 +31,7 @@ def number_cell(raw: str, form: str, epoch: datetime.datetime = WINDOWS) -> Cell
     if not NUMBER.fullmatch(raw):  # python would take 1_7, nan, and digits of other scripts too
         raise ValueError(f"{raw[:40]!r} is no number")
     number = decimal.Decimal(raw)
-    if abs(number) > MOST_NUMBER:
+    if abs(number) > 10 ** 15:  # a spreadsheet keeps fifteen digits
         return Cell("number", f"{number:.5E}", f"{number:.5E}")
     kind = kind_of(form)
     if kind in ("moment", "elapsed"):
@@ -71,7 +69,7 @@ def clock_text(seconds: int) -> str:
 def sections(form: str) -> list[list[str]]:
     """The pieces of the sections of a number format: for numbers above 0, below 0, for 0, and for texts. Raises
     ValueError where it is longer than any."""
-    if len(form) > MOST_FORM:
+    if len(form) > 1000:  # a spreadsheet takes 255
         raise ValueError(f"a number format has {len(form):,} letters")
     parts = "".join("\0" if match[0] == ";" else match[0] for match in TOKEN.finditer(form)).split("\0")
     return [[match[0] for match in TOKEN.finditer(part)] for part in parts]

@@ -45,6 +45,7 @@ class OdsReader:
         self.parents: dict[Style, str | None] = {}
         self.struck: dict[Style, bool] = {}  # of the styles that say so whether they strike out
         self.invisible: set[Style] = set()  # the styles of hidden sheets and rows
+        self.raised: set[Style] = set()  # those of letters that stand higher or lower
         self.aside = 0  # how deep inside of what has no cells
         self.spreadsheet = False
         self.row = self.column = 1  # the next ones
@@ -94,6 +95,8 @@ class OdsReader:
         text = looks.get("text-properties", {})
         if lines := {text.get("text-line-through-style"), text.get("text-line-through-type")} - {None}:
             self.struck[style] = lines != {"none"}
+        if not re.match("(0%|$)", text.get("text-position", "")):
+            self.raised.add(style)
         height = looks.get("table-row-properties", {}).get("row-height", "")
         if looks.get("table-properties", {}).get("display") == "false" or re.match(r"0(\.0*)?[a-z]", height):
             self.invisible.add(style)
@@ -170,10 +173,11 @@ class OdsReader:
             found = Cell("text", text, text)
         else:
             return None
-        struck = struck or any(self.is_struck(attributes(inside).get("style-name"), FAMILIES.get(local(inside), ""))
-                               for paragraph in paragraphs for inside in paragraph.iter())
-        is_unseen = paragraphs and not shown
-        return found and found._replace(kind="unseen" if is_unseen else found.kind, formula=formula, struck=struck)
+        styles = {(FAMILIES.get(local(inside), ""), attributes(inside).get("style-name"))
+                  for paragraph in paragraphs for inside in paragraph.iter()}
+        struck = struck or any(self.is_struck(name, family) for family, name in styles)
+        odd = "unseen" if paragraphs and not shown else "raised" if self.raised & styles else ""
+        return found and found._replace(kind=odd or found.kind, formula=formula, struck=struck)
 
 
 def letters(element: Element) -> str:

@@ -62,6 +62,7 @@ AGAIN = "type it again in a column of the format text"
 UNREAD = {  # the kinds that no column takes
     "pending": "a formula that no spreadsheet has computed: open the workbook in one and save it, or type the value",
     "error": "an error of a formula: mend it, or type the value",
+    "raised": "letters that stand higher or lower, as the number of a footnote: take that away, or let all stand alike",
     "unseen": "a value whose number format shows nothing: delete it, or give it another format"}
 REFUSED = UNREAD | {  # what is said of a kind where a column does not take it
     "date": f"a spreadsheet made a date of it: {AGAIN}", "time": f"a spreadsheet made a time of it: {AGAIN}",

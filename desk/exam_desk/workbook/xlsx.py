@@ -18,7 +18,7 @@ TAGS = {MAIN + name: name for name in ("row", "col", "mergeCell", "sheetFormatPr
 CELL, VALUE, FORMULA, INLINE = MAIN + "c", MAIN + "v", MAIN + "f", MAIN + "is"
 TEXTS = ("s", "str", "inlineStr")  # shared, the result of a formula, in the cell
 TRUE = ("1", "true")
-Letters = tuple[str, bool]  # a text in which nothing is left to be turned, and whether a part of it is struck out
+Letters = tuple[str, bool, bool]  # a text in which nothing is left to be turned; is a part of it struck out, raised
 
 
 def read_xlsx(archive: zipfile.ZipFile) -> Book:
@@ -38,7 +38,8 @@ def unescaped(text: str) -> str:
 def letters_of(element: Element) -> Letters:
     """The letters of an element <si> or <is>, without the <rPh> that say how it is spoken."""
     said = [part for child in element if local(child) != "rPh" for part in child.iter()]
-    return unescaped("".join(part.text or "" for part in said if local(part) == "t")), is_struck(element)
+    is_raised = any(part.get("val") != "baseline" for part in element.iterfind(".//{*}vertAlign"))
+    return unescaped("".join(part.text or "" for part in said if local(part) == "t")), is_struck(element), is_raised
 
 
 def is_struck(element: Element) -> bool:
@@ -150,17 +151,17 @@ class Reader:
 
     def cell(self, part: Element) -> Cell | None:
         """The cell of an element <c>: no day is computed, a formula is its last result."""
-        kind, text, struck = part.get("t", "n"), part.findtext(VALUE), False
+        kind, text, struck, raised = part.get("t", "n"), part.findtext(VALUE), False, False
         formula = part.find(FORMULA) is not None
         if formula and not text and (text is None or kind not in TEXTS):
             return Cell("pending", "", "", True)
         if kind == "inlineStr":
             inside = part.find(INLINE)
-            text, struck = ("", False) if inside is None else letters_of(inside)
+            text, struck, raised = ("", False, False) if inside is None else letters_of(inside)
         elif kind == "s" and text:
             if (number := int(text)) not in range(len(self.texts)):
                 raise Trouble(f"a cell refers to a text that is not there: {OPEN_AND_SAVE}")
-            text, struck = self.texts[number]
+            text, struck, raised = self.texts[number]
         if not text:
             return None
         form, all_struck = self.looks[int(part.get("s", "0"))]
@@ -168,6 +169,7 @@ class Reader:
             found = number_cell(text, form, self.epoch)
         elif kind in TEXTS:
             found = text_cell(unescaped(text) if kind == "str" else text, form)
+            found = found._replace(kind="raised") if raised else found
         elif kind == "e":
             found = Cell("error", text, text)
         elif kind == "b":

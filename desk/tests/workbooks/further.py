@@ -183,6 +183,14 @@ case("toml-can-say-which", xlsx(sheet("Candidates", ["number", "Full name", "nam
      mistakes=[["Candidates!C1", "columns B, C could all be name: keep one header, or say which in a file of columns"]])
 case("csv-comma-in-a-name", b"number,name\n0000001,Lin, Ada\n0000002,Berg, Bo\n", suffix="csv", files={"candidates": ["0000001,Lin,", "0000002,Berg,"]},
      told=[["'further-csv-comma-in-a-name'!C2", "the column with no header is not read, such as ' Ada'"]])
+RAISED = [("MA-1", ""), ("2", '<vertAlign val="superscript"/>')]
+case("raised-letters", xlsx(sheet("Papers", PAPERS, ["MA-1", "Maths", "S1", 90, "-"], ["MA-12", ("rich", [("H", '<vertAlign val="baseline"/>'), ("O", "")]), "S1", 90, "-"]),
+     sheet("Entries", ["number", "paper"], ["0000001", ("rich", RAISED)])), 1, only=True, mistakes=[["Entries!B2", "higher or lower"]])
+in_candidates("raised-letters", ods_row(*ADA), ods_row("0000002", cell('office:value-type="string"', 'Bo<text:span text:style-name="T1">1</text:span>'), "CODE0002"),
+     ods_row("0000003", cell('office:value-type="string"', 'Cy<text:span text:style-name="T2">1</text:span>'), "CODE0003"), status=1, only=True,
+     styles='<style:style style:name="T1" style:family="text"><style:text-properties style:text-position="super 58%"/></style:style>'
+     '<style:style style:name="T2" style:family="text"><style:text-properties style:text-position="0% 100%"/></style:style>',
+     mistakes=[["Candidates!B3", "higher or lower"]])
 case("code-like-day", xlsx(sheet("Halls", ["hall", "title", "features"], ["1MAR", "A", "-"]), sheet("Sessions",
      SESSIONS, ["1-MAR", "2027-06-01", "09:00"], ["MAR-27", "2027-06-02", "09:00"], ["3-okt", "2027-06-03",
      "09:00"])), files={"halls":["1MAR,A,-"], "sessions":["1-MAR,2027-06-01,09:00", "MAR-27,2027-06-02,09:00",
