@@ -194,6 +194,7 @@ class OutOfDate(sample.SampleSchool):
         found = {(name, hall): papers.page(reading, name, self.CODE, [hall] * (hall != ""))
                  for name, paper in PAPERS.items() if paper.about for hall in (halls if paper.by_hall else [""])}
         found["slips", ""] = slips.page(reading, slips.Choice([self.CODE], desks=True))
+        found = {key: page.replace(on_paper.mark(reading), "") for key, page in found.items()}  # which all have
         return found, on_paper.lines_of(reading, self.CODE), on_paper.shared(reading, self.CODE)
 
     def sits(self, reading, **values):
