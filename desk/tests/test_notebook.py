@@ -585,7 +585,7 @@ class Commands(sample.SampleSchool):
         self.office("absent", "MON-AM", "0001051", TODAY="2027-06-07")
         self.run_office("school", "Dale")
         self.assertIn("left as they are now, and otherwise in the copy: absences of MON-AM, notes, the name of the "
-                      "school\n", self.office("back", "2", "--yes"))
+                      "school\n", self.office("back", "1", "--yes"))
         self.assertEqual((self.office("school"), self.office("notes")), ("Dale\n", "0001051 Di Berg: scribe\n"))
 
     def test_on_papers(self):
