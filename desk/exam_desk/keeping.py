@@ -7,8 +7,8 @@ port or a socket that cannot be had. What it does with the locks of `turns`, aga
     1. It waits for want.lock, then for office.lock; where candidates wait meanwhile, it takes turn.lock for them.
     2. It begins `serve`, and lets go of want.lock: from then on a command can ask it to step aside.
     3. It hands requests on. Once those who waited have their answers, or after TURN_SECONDS, it lets go of turn.lock.
-    4. When a command asks, the day ends, `serve` fails or others change the files, it ends `serve`, and lets go of
-       office.lock.
+    4. When a command asks, the day ends, `serve` fails or another file is in the place of the office, it ends `serve`,
+       and lets go of office.lock.
 """
 import asyncio
 import contextlib
@@ -25,7 +25,7 @@ import time
 from collections.abc import Iterator, Sequence
 from io import FileIO
 
-from exam_desk import asking, beside, copies, hold, private, refusals, running, turns
+from exam_desk import asking, beside, copies, hold, refusals, running, turns
 from exam_desk.office import Office, Trouble
 from exam_desk.words import plain
 
@@ -61,7 +61,6 @@ class Keep:
         self.hold = hold.Hold()
         self.ending = False
         self.day = office.today()  # for which it serves
-        self.moment: object = None  # of the office's files since `serve` has opened them, which others must leave alone
 
     def show(self, state: str = "aside", **more: object) -> None:
         """Writes into the lock file what `keep` does."""
@@ -108,15 +107,15 @@ class Keep:
             return "" if self.ending else await self.serve_once(want, turn)
 
     async def serve_once(self, want: FileIO, turn: FileIO) -> str:
-        """Runs one `serve`, with the office alone; gives its fault, or "". No length of a night is reckoned, so a
-        missing midnight or a set clock does no harm."""
+        """Runs one `serve`, with the office alone, while its file has the name; gives its fault, or "". No length of a
+        night is reckoned, so a missing midnight or a set clock does no harm."""
         self.hold.over.clear()  # a command wants the office only while it holds want.lock
         self.hold.fault = ""
         if (day := self.office.today()) != self.day:
             say(f"the day is {day} now")
             self.day = day
         self.keep_day()
-        self.moment = None
+        file = os.stat(self.office.path).st_ino
         with running.begun(self.office, self.office.path, port := asking.free_port()) as process:
             ended = asyncio.create_task(asyncio.to_thread(last_complaint, process))
             ended.add_done_callback(lambda _: self.hold.over.set())
@@ -124,13 +123,12 @@ class Keep:
             fault = "serve cannot be watched"
             try:
                 want.close()
-                while not self.hold.over.is_set() and self.office.today() == day:
+                while (not self.hold.over.is_set() and self.office.today() == day
+                       and os.stat(self.office.path).st_ino == file):  # another can be put in its place, or none
                     with contextlib.suppress(TimeoutError):
                         await asyncio.wait_for(self.hold.over.wait(), DAY_PAUSE)
                     if opening.done():
                         opening.result()  # raises what went wrong
-                    if self.moment and self.moment != private.moment(os.path.realpath(self.office.path)):
-                        self.hold.give_up("somebody has put other files in the place of the office")
                 fault = self.hold.fault or (f"serve ended with status {process.returncode}" if ended.done() else "")
             finally:
                 opening.cancel()
@@ -145,9 +143,6 @@ class Keep:
         assert process.stdout
         if (await asyncio.to_thread(process.stdout.readline)).startswith(b"serving"):  # else it ends
             if asking.listens(server):
-                while not self.moment:
-                    await asyncio.sleep(turns.PAUSE)
-                    self.moment = private.moment(os.path.realpath(self.office.path))
                 self.hold.open(server)
                 self.show("serving", serve=process.pid, day=self.day.isoformat())
             else:
