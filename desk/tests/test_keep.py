@@ -146,7 +146,7 @@ class Kept(sample.KeptSchool):
         process.kill()
         process.communicate()
         self.assertEqual(self.ask()[0], 200)
-        self.assertEqual(self.office("check"), "good\n")
+        self.assertEqual(self.run_office("check").stdout, "good\n")  # it says so where the change had begun
 
     def test_silent_clients_keep_nobody_waiting(self):
         with contextlib.ExitStack() as silent:
