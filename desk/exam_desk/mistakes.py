@@ -14,6 +14,7 @@ from exam_desk.reading import Reading
 
 MOST_COUNTED = 100_000  # mistakes of a file; what is behind the last of them is not looked at
 MOST_SHOWN = 5  # mistakes or notes on one column of a file
+MOST_TO_MEND = 200  # bytes of a value for which a better one is sought
 GRANTED = f"SELECT printf('%07d', number) FROM appeal WHERE {snapshot.GRANTED_NEEDS}"
 NAMES, CODES = {"name", "title"}, {"session", "paper", "hall", "code"}  # columns
 CODE = "1 to 12 of A-Z, 0-9 and -"
@@ -115,7 +116,7 @@ class Known:
 def cure(column: str, field: bytes) -> tuple[str, str]:
     """What to do about a wrong value, and what to write in its place where that is clear: as `office read` has it."""
     from exam_desk.workbook import cells, values  # here, since these ask this module what is right
-    if column in NAMES or len(field) > 200:  # for a longer value no better one is sought
+    if column in NAMES or len(field) > MOST_TO_MEND:
         return needed(column, field), ""
     text = field.decode("utf-8", "replace").strip(" '")
     try:

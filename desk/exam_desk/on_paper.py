@@ -169,8 +169,8 @@ def otherwise(office: Office) -> dict[str, Papers]:
 
 
 def mark(reading: Reading) -> str:
-    """What the foot of papers names: the state of the office, and behind it that of notes and names beside it. Nobody
-    can try out what a note may be, who knows no access codes: they are in the name of a state."""
+    """What the foot of papers names: the state of the office, and behind it that of notes and names beside it. The name
+    of the state is hashed with these, since nobody without all access codes knows it: so nobody can try out a note."""
     kept = sorted(notebook.contents(reading.office, notebook.PLACE, among=ON_ALL).items())
     behind = hashlib.sha256(repr([reading.name, kept]).encode()).hexdigest()[:4]
     return f"{reading.name[:8]}-{behind}" if kept else reading.name[:8]

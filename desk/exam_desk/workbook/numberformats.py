@@ -6,6 +6,10 @@ import re
 
 from exam_desk.workbook.cells import Cell, whole_day
 
+LAST_SERIAL = 2_950_000  # a day in the year 9976
+MOST_NUMBER = 10 ** 15  # a spreadsheet keeps fifteen digits
+MOST_FORM = 1000  # letters of a number format; a spreadsheet takes 255
+LONG_NUMBER = 10 ** 11  # from here on the format General shows a power of ten
 WINDOWS, MACINTOSH = datetime.datetime(1899, 12, 30), datetime.datetime(1904, 1, 1)  # the day 0
 GENERAL = "General"
 BUILT_IN = {  # formats by number; each machine has dates and a currency of its own
@@ -31,7 +35,7 @@ def number_cell(raw: str, form: str, epoch: datetime.datetime = WINDOWS) -> Cell
     if not NUMBER.fullmatch(raw):  # python would take 1_7, nan, and digits of other scripts too
         raise ValueError(f"{raw[:40]!r} is no number")
     number = decimal.Decimal(raw)
-    if abs(number) > 10 ** 15:  # a spreadsheet keeps fifteen digits
+    if abs(number) > MOST_NUMBER:
         return Cell("number", f"{number:.5E}", f"{number:.5E}")
     kind = kind_of(form)
     if kind in ("moment", "elapsed"):
@@ -52,7 +56,7 @@ def moment_cell(number: decimal.Decimal, form: str, kind: str, epoch: datetime.d
     seconds = round(number * 86_400)
     if kind == "elapsed":
         return Cell("time", clock_text(seconds), "")
-    if not 0 <= number < 2_950_000:  # a day in the year 9976
+    if not 0 <= number < LAST_SERIAL:
         return Cell("number", str(number), "")
     when = epoch + datetime.timedelta(seconds=seconds)
     shown = when.strftime(AS_THE_FILES.get(form.partition(";")[0].replace("\\", "").lower(), ""))
@@ -69,7 +73,7 @@ def clock_text(seconds: int) -> str:
 def sections(form: str) -> list[list[str]]:
     """The pieces of the sections of a number format: for numbers above 0, below 0, for 0, and for texts. Raises
     ValueError where it is longer than any."""
-    if len(form) > 1000:  # a spreadsheet takes 255
+    if len(form) > MOST_FORM:
         raise ValueError(f"a number format has {len(form):,} letters")
     parts = "".join("\0" if match[0] == ";" else match[0] for match in TOKEN.finditer(form)).split("\0")
     return [[match[0] for match in TOKEN.finditer(part)] for part in parts]
@@ -118,8 +122,8 @@ def literal(token: str) -> str:
 
 def shown_token(token: str, number: decimal.Decimal) -> str:
     """What a piece of a number format shows; raises `Unknown`."""
-    if token.lower() == "general":  # it shows a power of ten where a number has more than 11 digits
-        return f"{float(number):.5E}" if number >= 10 ** 11 else format(number, "f")
+    if token.lower() == "general":
+        return f"{float(number):.5E}" if number >= LONG_NUMBER else format(number, "f")
     if token[0] not in "0#":
         return literal(token)
     match = DIGITS.fullmatch(token.replace("#,##", "#,"))

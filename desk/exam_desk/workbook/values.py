@@ -23,6 +23,7 @@ OTHER_LETTERS: dict[str, Callable[[str], str]] = {  # what is done to letters be
 DASHES = dict.fromkeys(map(ord, "\u2010\u2011\u2012\u2013\u2014\u2212"), "-")
 GROUPS = re.compile(r"(?<=[0-9])[ ,.'\u00a0\u202f](?=[0-9]{3}(?![0-9]))")
 NUMBER = re.compile(r"-?[0-9]+(\.[0-9]+)?")
+QUOTES = tuple("'\u2018\u2019`\u00b4")
 YES = {"yes", "y", "true", "1", "x", "✓", "✔", "ja", "j", "wahr", "oui", "vrai", "si", "sí"}
 NO = {"no", "n", "false", "0", "-", "nein", "falsch", "non", "faux", ""}
 NONE = {"", "-", "none", "no", "keine"}
@@ -172,7 +173,7 @@ def mark_of(cell: Cell | None) -> str:
 # -- numbers of candidates, codes and names
 
 def read_number(column: str, cell: Cell, text: str, way: Way) -> Value:
-    quoted = cell.kind == "text" and text[:1] in {*"'\u2018\u2019`\u00b4"}
+    quoted = cell.kind == "text" and text.startswith(QUOTES)
     digits = text[1:] if quoted else text
     padded = mistakes.with_zeros(files.encoded(digits)).decode("utf-8", "surrogatepass")
     if re.fullmatch(r"[1-9][0-9]{0,2}[ ,.'’][0-9]{3}|[1-9][ ,.'’][0-9]{3}[ ,.'’][0-9]{3}", digits):
