@@ -16,7 +16,6 @@ from exam_desk.words import plain
 
 NAME = "log"
 WITH_REASON = {"decide": 4, "lodge": 6}  # words at most, behind which a reason stands, which is private
-BESIDE_OTHERS = ["lodge"]  # it goes the candidates' way, without the office for itself
 BEGINS, STEP = "begins", "step"
 ALL_BYTES = 1 << 30  # more than a log ever has
 
@@ -78,7 +77,7 @@ def unfinished(office: Office) -> Unfinished | None:
     from exam_desk import copies  # here, since the copies need the log
     found = dict[str, Unfinished]()  # by command: the last change, and lists that let go
     for when, _, command, status, answer in last_lines(office):
-        if status == BEGINS and command.split(" ")[0] not in BESIDE_OTHERS:
+        if status == BEGINS and command.split(" ")[0] != "lodge":  # that goes the candidates' way, beside changes
             found = {title: each for title, each in found.items() if each.lets_go}
             found.setdefault(command, Unfinished(when, command, answer)).lets_go = False
         elif command in found and status == STEP:

@@ -178,6 +178,30 @@ class Kept(sample.KeptSchool):
         self.assertEqual(self.appeal("HA1"), (200, {"state": "open"}))
         self.assertEqual(self.stored(), [("HA1", 1)])
 
+    def test_an_office_that_was_moved_away_with_its_folder(self):
+        """As for a new year, beside a `keep` that nobody ended: no folder is made where no office is, and the commands of
+        the office that comes there find `keep`."""
+        serve, away = self.served_by(), os.path.join(self.folder, "2026")
+        os.mkdir(away)
+        for name in [*os.listdir(self.folder)]:
+            if "office.db" in name:
+                os.rename(os.path.join(self.folder, name), os.path.join(away, name))
+        sample.until(lambda: has_ended(serve))
+        time.sleep(keeping.FAULT_PAUSE + 1)  # it tries again
+        self.assertEqual(os.listdir(self.folder), ["2026"])
+        self.assertEqual(self.office("init"), "ready\n")
+        sample.until(lambda: self.state().get("state") == "serving")
+        self.assertEqual((self.office("check"), self.ask()), ("good\n", (404, {"error": 6})))
+        self.assertIn("does not run", self.refused("keep", "stop", OFFICE=f"{away}/office.db"))
+        self.assertEqual(self.office("keep", "stop"), "ended\n")
+
+    def test_a_folder_that_was_removed(self):
+        """With the locks in it: the next command takes the office from nobody, and finds `keep`."""
+        shutil.rmtree(self.desk)
+        sample.until(lambda: self.state().get("state") == "serving")
+        self.assertEqual(self.office("withdraw", "0001000", "MA-1"), "withdrawn\n")
+        self.assertEqual(self.ask()[0], 200)
+
     def test_a_missing_second_file(self):
         self.office("keep", "stop")
         with contextlib.closing(sqlite3.connect(self.path)) as file:
