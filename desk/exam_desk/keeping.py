@@ -79,7 +79,8 @@ class Keep:
             loop.add_signal_handler(number, self.end)
         loop.add_signal_handler(signal.SIGUSR1, self.hold.over.set)
         with listener(self.place) as listening:
-            async with await asyncio.start_server(self.hold.take, sock=listening, backlog=BACKLOG, limit=hold.LIMIT):
+            door = await asyncio.start_server(self.hold.take, sock=listening, backlog=BACKLOG, limit=hold.LIMIT)
+            with contextlib.closing(door):  # as a context of its own it would wait for its clients
                 self.show()
                 while not self.ending:
                     try:

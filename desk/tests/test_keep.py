@@ -271,6 +271,26 @@ class Beginning(sample.SampleSchool):
             self.assertRegex(journal.read(), r"\A\S+ \S+ first\n\Z")
 
 
+class Ending(sample.SampleSchool):
+    def test_no_client_who_waits_holds_its_end_up(self):
+        """Newer pythons end a server only once its last client has gone, which would be half a minute."""
+        with (mock.patch("asyncio.base_events.Server.wait_closed", lambda _: asyncio.Event().wait()),
+              mock.patch("exam_desk.keeping.say")):
+            asyncio.run(self.ends_beside_a_client())
+
+    async def ends_beside_a_client(self):
+        asyncio.get_running_loop().set_exception_handler(lambda *_: None)  # some pythons complain of who is cut off
+        with turns.lock_file(self.value, "keep.lock") as lock:
+            keep = keeping.Keep(self.value, port := str(sample.free_port()), lock)
+            served = asyncio.create_task(keep.run())
+            async with asyncio.timeout(sample.PATIENCE):
+                await keep.hold.opened.wait()
+            _, writer = await asyncio.open_connection("127.0.0.1", int(port))
+            keep.end()
+            await asyncio.wait_for(served, keeping.STOP_SECONDS)
+            writer.close()
+
+
 class NewDay(sample.SampleSchool):
     def test_a_copy_that_cannot_be_kept_is_said_and_tried_again(self):
         with turns.lock_file(self.value, "keep.lock") as lock, mock.patch("exam_desk.keeping.say") as say:
