@@ -76,7 +76,8 @@ class Keep:
         asks it to step aside."""
         loop = asyncio.get_running_loop()
         for number in (signal.SIGTERM, signal.SIGINT, signal.SIGHUP):
-            loop.add_signal_handler(number, self.end)
+            if signal.getsignal(number) != signal.SIG_IGN:  # as behind `nohup`
+                loop.add_signal_handler(number, self.end)
         loop.add_signal_handler(signal.SIGUSR1, self.hold.over.set)
         with listener(self.place) as listening:
             door = await asyncio.start_server(self.hold.take, sock=listening, backlog=BACKLOG, limit=hold.LIMIT)

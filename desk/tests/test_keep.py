@@ -272,6 +272,16 @@ class Beginning(sample.SampleSchool):
 
 
 class Ending(sample.SampleSchool):
+    def test_what_nohup_ignores_does_not_end_it(self):
+        line = ["sh", "-c", "trap '' HUP; exec \"$@\"", "sh", sample.DESK / "office", "keep", "run", str(sample.free_port())]
+        with subprocess.Popen(line, env=self.environment, stderr=subprocess.DEVNULL) as process:
+            sample.until(lambda: "serving" in beside.text_of(self.path, "keep.lock"))
+            process.send_signal(signal.SIGHUP)
+            self.office("withdraw", "0001000", "MA-1")
+            self.assertIsNone(process.poll())
+            process.terminate()
+        self.assertEqual(process.returncode, 0)
+
     def test_no_client_who_waits_holds_its_end_up(self):
         """Newer pythons end a server only once its last client has gone, which would be half a minute."""
         with (mock.patch("asyncio.base_events.Server.wait_closed", lambda _: asyncio.Event().wait()),
