@@ -44,10 +44,10 @@ def shown(words: Sequence[str]) -> list[str]:
 
 
 def write(office: Office, words: Sequence[str], status: int | str, answer: str) -> None:
-    now = datetime.datetime.now().isoformat(" ", "seconds")
-    columns = [now, office.user, " ".join(shown(words)), str(status), answer]
-    line = "\t".join(map(plain, columns)) + "\n"
-    with open(beside.open_file(office.path, NAME, flags=os.O_WRONLY | os.O_CREAT | os.O_APPEND), "wb") as log:
+    when = datetime.datetime.now().isoformat(" ", "seconds")
+    line = "\t".join(map(plain, [when, office.user, " ".join(shown(words)), str(status), answer])) + "\n"
+    with (beside.naming(beside.folder(office.path, NAME)),
+          open(beside.open_file(office.path, NAME, flags=os.O_WRONLY | os.O_CREAT | os.O_APPEND), "wb") as log):
         log.write(line.encode("utf-8", "backslashreplace"))
 
 
@@ -63,9 +63,9 @@ def write_done(office: Office, words: Sequence[str], status: int | str, answer: 
 def logged(office: Office, words: Sequence[str], status: str = BEGINS, answer: str = "") -> Iterator[Outcome]:
     """A line in the log before a change, which waits until that is on the disk; and one with the outcome after it."""
     write(office, words, status, answer)
-    beside.sync(beside.folder(office.path, NAME))
     outcome = Outcome()
     try:
+        beside.sync(beside.folder(office.path, NAME))
         yield outcome
     finally:
         write_done(office, words, outcome.status, outcome.answer)
