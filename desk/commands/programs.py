@@ -202,8 +202,7 @@ def run(office: Office, words: list[str]) -> int:
 
 
 def as_typed(words: list[str]) -> tuple[list[str], bool]:
-    """The words without the first `--`, and whether one before it asks for help; what is behind it may begin with `-`.
-    """
+    """The words without the first `--`, and whether one before it asks for help; those behind it may begin with `-`."""
     place = words.index("--") if "--" in words else len(words)
     return words[:place] + words[place + 1:], not {"-h", "--help"}.isdisjoint(words[:place])
 
