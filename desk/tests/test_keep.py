@@ -195,9 +195,9 @@ class Kept(sample.KeptSchool):
         self.assertIn("does not run", self.refused("keep", "stop", OFFICE=f"{away}/office.db"))
         self.assertEqual(self.office("keep", "stop"), "ended\n")
 
-    def test_a_folder_that_was_removed(self):
+    def test_a_folder_that_was_moved_away_alone(self):
         """With the locks in it: the next command takes the office from nobody, and finds `keep`."""
-        shutil.rmtree(self.desk)
+        os.rename(self.desk, f"{self.desk}.away")
         sample.until(lambda: self.state().get("state") == "serving")
         self.assertEqual(self.office("withdraw", "0001000", "MA-1"), "withdrawn\n")
         self.assertEqual(self.ask()[0], 200)
