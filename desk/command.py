@@ -136,6 +136,9 @@ def tell(kind: type[BaseException], fault: BaseException, place: TracebackType |
         return  # who reads has seen enough, as `head` has
     if isinstance(fault, Trouble):
         warn(fault)
+    elif isinstance(fault, ModuleNotFoundError) and fault.name == "markupsafe":
+        warn(f"{sys.executable} lacks what papers need: `apt install python3-markupsafe`, as root, and let /usr/bin "
+             "come first on the PATH")
     elif isinstance(fault, OSError):
         who = f" to the user {beside.user_name(os.getuid())}" if isinstance(fault, PermissionError) else ""
         where = f"{fault.filename}: " if fault.filename else ""

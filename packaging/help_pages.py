@@ -99,18 +99,16 @@ def choices(said):
 
 
 def completion(commands, desk):
-    """What bash offers for `examoffice` and `office`: commands, the words of an argument, files. `desk` as `office_page`
-    has it."""
+    """What bash offers for `examoffice` and `office`: commands, and the words of an argument; in every other place it
+    offers files by itself, also of names with blanks. `desk` as `office_page` has it."""
     cases = ""
     for name, said in desk.items():
         if found := re.search(r"^positional arguments:\n  {([a-z,]+)}$", said, re.M):
             cases += f"        {name}:1) COMPREPLY=($(compgen -W '{found[1].replace(',', ' ')}' -- \"$word\")) ;;\n"
     for name, command in commands.items():
-        for place, (label, said) in enumerate(command.sections.get("Arguments", []), 1):
+        for place, (_, said) in enumerate(command.sections.get("Arguments", []), 1):
             if offered := choices(said):
                 cases += f"        {name}:{place}) COMPREPLY=($(compgen -W '{' '.join(offered)}' -- \"$word\")) ;;\n"
-            elif label == "<file>":
-                cases += f"        {name}:{place}) compopt -o filenames; COMPREPLY=($(compgen -f -- \"$word\")) ;;\n"
     return f"""# Completion of examoffice(1) and office(1) for bash.
 _examoffice() {{
     local word=${{COMP_WORDS[COMP_CWORD]}} before=${{COMP_WORDS[COMP_CWORD-1]}} at=1 commands="{' '.join(commands)}"
@@ -121,7 +119,7 @@ _examoffice() {{
     else
         while [[ ${{COMP_WORDS[at]}} == --db || ${{COMP_WORDS[at]}} == --today ]]; do at=$((at + 2)); done
         case $before in
-        --db) compopt -o filenames; COMPREPLY=($(compgen -f -- "$word")); return ;;
+        --db) return ;;
         --today) COMPREPLY=($(date +%F)); return ;;
         esac
         [ "$COMP_CWORD" -gt "$at" ] || commands="$commands --db --today --help"
@@ -131,8 +129,7 @@ _examoffice() {{
         return
     fi
     case ${{COMP_WORDS[at]}}:$((COMP_CWORD - at)) in
-{cases}        *) compopt -o filenames; [ "${{1##*/}}" = examoffice ] || COMPREPLY=($(compgen -f -- "$word")) ;;
-    esac
+{cases}    esac
 }}
-complete -F _examoffice examoffice office
+complete -o default -F _examoffice examoffice office
 """

@@ -2,6 +2,7 @@
 which `what-if` rehearses, and `office` carries out."""
 import contextlib
 import os
+import re
 import subprocess
 import sys
 from collections.abc import Callable, Iterator, Sequence
@@ -201,8 +202,7 @@ def run(office: Office, words: list[str]) -> int:
 
 
 def as_typed(words: list[str]) -> tuple[list[str], bool]:
-    """The words without the first `--`, and whether one before it asks for help; what is behind it may begin with `-`.
-    """
+    """The words without the first `--`, and whether one before it asks for help; those behind it may begin with `-`."""
     place = words.index("--") if "--" in words else len(words)
     return words[:place] + words[place + 1:], not {"-h", "--help"}.isdisjoint(words[:place])
 
@@ -284,11 +284,10 @@ def below(answered: Answered) -> list[str]:
 
 def put(text: str) -> bool:
     """Prints a text, and says whether it could be written: if not, the command is done all the same."""
-    try:
+    with contextlib.suppress(OSError):
         command.say(text)
-    except OSError:
-        return False
-    return True
+        return True
+    return False
 
 
 def said(answered: Answered) -> int:
@@ -313,6 +312,6 @@ def usage(name: str, *words: str) -> list[str]:
     if not (text := running.help_text(command.office(), name)):
         gone = [f"  {name} is gone: {GONE[name]}"] if name in GONE else []
         return [*gone, "  `office --help` lists the commands"]
-    wrong = typed.wrong(running.takes(text), words)
+    wrong = typed.wrong(re.findall("<([a-z]+)>", text[text.find("Usage: "):].partition("\n")[0]), words)
     more = [f"`office {name} --help` has other forms"] if name in HELP else []
     return [f"  {line}" for line in [*wrong, *[line for line in text.split("\n") if line][1:], *more]]

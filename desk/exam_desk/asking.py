@@ -40,10 +40,8 @@ class Stranger(OSError):
 
 class Serve:
     """Asks a `serve` of its own over a file that nobody else uses. It begins with the first request, as a child of this
-    process, and ends with it, however that ends.
-
-    The thread that asks first must live as long: the system ends `serve` with that thread.
-    """
+    process, and ends with it, however that ends. The thread that asks first must live as long: the system ends `serve`
+    with that thread."""
 
     def __init__(self, office: Office, path: str, explain: Callable[[str], None]) -> None:
         """Over a file of an office. `explain` hears a refusal, and may raise what it knows better."""
@@ -160,10 +158,8 @@ def listens(server: Server) -> bool:
 
 
 def listener(port: int) -> str:
-    """The inode of the socket that listens at a port of this machine; "" where none does.
-
-    The kernel lists the sockets that listen first; there may be thousands of others behind them.
-    """
+    """The inode of the socket that listens at a port of this machine; "" where none does. The kernel lists the sockets
+    that listen first; there may be thousands of others behind them."""
     wanted = f"{int.from_bytes(socket.inet_aton(HOST), sys.byteorder):08X}:{port:04X}".encode()
     with open("/proc/net/tcp", "rb") as lines:
         next(lines)

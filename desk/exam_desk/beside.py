@@ -52,10 +52,9 @@ def naming(place: str) -> Iterator[None]:
 
 def user_name(number: int) -> str:
     """The name of a user; the number of one without a name."""
-    try:
+    with contextlib.suppress(KeyError):
         return pwd.getpwuid(number).pw_name
-    except KeyError:
-        return str(number)
+    return str(number)
 
 
 def refuse_stranger(office: str) -> None:

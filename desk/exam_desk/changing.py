@@ -138,11 +138,9 @@ def rehearse(office: Office, steps: Sequence[Step], tell: Tell = lambda title: N
 
 def carry_out(office: Office, steps: Sequence[Step], made_from: str | None = None, promised: str | None = None,
               title: str = "", tell: Tell = lambda title: None) -> Carried:
-    """Carries steps out in one turn, whole or not at all, with one copy from before.
-
-    Where names of states are given, the office must be of the first one, else `Stale` is raised; and it is said whether
-    it is of the second one then. Raises `Trouble` where nothing could begin, and nothing is changed.
-    """
+    """Carries steps out in one turn, whole or not at all, with one copy from before. Where names of states are given
+    the office must be of the first one, else `Stale` is raised; and it is said whether it is of the second one then.
+    Raises `Trouble` where nothing could begin, and nothing is changed."""
     office.today()  # a day that is none is said before anything begins
     if not os.path.isfile(office.path):  # the program says so
         return Carried([Answered(steps[0], running.run_over(office, office.path, *steps[0].words), office)], None, None)

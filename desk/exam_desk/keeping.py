@@ -7,8 +7,8 @@ port or a socket that cannot be had. What it does with the locks of `turns`, aga
     1. It waits for want.lock, then for office.lock; where candidates wait meanwhile, it takes turn.lock for them.
     2. It begins `serve`, and lets go of want.lock: from then on a command can ask it to step aside.
     3. It hands requests on. Once those who waited have their answers, or after TURN_SECONDS, it lets go of turn.lock.
-    4. When a command asks, the day ends, `serve` fails or another file is in the place of the office, it ends `serve`,
-       and lets go of office.lock.
+    4. When a command asks, the day ends, `serve` fails, or another file is in the place of the office or of keep.lock,
+       it ends `serve`, and lets go of office.lock.
 """
 import asyncio
 import contextlib
@@ -72,31 +72,34 @@ class Keep:
         self.hold.over.set()
 
     async def run(self) -> None:
-        """Listens until the end; a signal ends it, but SIGUSR1, by which a command asks it to step aside."""
+        """Serves again and again until the end, and says each fault. A signal ends it, but SIGUSR1, by which a command
+        asks it to step aside."""
         loop = asyncio.get_running_loop()
         for number in (signal.SIGTERM, signal.SIGINT, signal.SIGHUP):
-            loop.add_signal_handler(number, self.end)
+            if signal.getsignal(number) != signal.SIG_IGN:  # as behind `nohup`
+                loop.add_signal_handler(number, self.end)
         loop.add_signal_handler(signal.SIGUSR1, self.hold.over.set)
         with listener(self.place) as listening:
-            async with await asyncio.start_server(self.hold.take, sock=listening, backlog=BACKLOG, limit=hold.LIMIT):
+            door = await asyncio.start_server(self.hold.take, sock=listening, backlog=BACKLOG, limit=hold.LIMIT)
+            with contextlib.closing(door):  # as a context of its own it would wait for its clients
                 self.show()
-                await self.serve_again_and_again()
+                while not self.ending:
+                    try:
+                        fault = await self.served()
+                    except Exception as wrong:  # whatever it is, candidates wait
+                        fault = f"serve cannot begin: {wrong or type(wrong).__name__}"
+                    if fault:
+                        say(fault)
+                        self.show(fault)
+                        await asyncio.sleep(FAULT_PAUSE)
         say("ended")
-
-    async def serve_again_and_again(self) -> None:
-        """Says each fault."""
-        while not self.ending:
-            try:
-                fault = await self.served()
-            except Exception as wrong:  # whatever it is, candidates wait
-                fault = f"serve cannot begin: {wrong or type(wrong).__name__}"
-            if fault:
-                say(fault)
-                self.show(fault)
-                await asyncio.sleep(FAULT_PAUSE)
 
     async def served(self) -> str:
         """Serves until a command wants the office, the day or `keep` ends, or `serve` fails; gives the fault, or ""."""
+        os.stat(self.office.path)  # where no office is no folder is made beside it
+        if not self.has_lock():
+            old, self.lock = self.lock, locked(self.office)
+            old.close()
         with (turns.lock_file(self.office, "turn.lock") as turn, turns.lock_file(self.office, "want.lock") as want,
               turns.lock_file(self.office, "office.lock") as office):
             for lock in want, office:
@@ -105,6 +108,11 @@ class Keep:
                         turns.try_lock(turn)
                     await asyncio.sleep(turns.PAUSE)
             return "" if self.ending else await self.serve_once(want, turn)
+
+    def has_lock(self) -> bool:
+        """Whether commands find its lock: the folder beside the office can be moved away, with the office or alone."""
+        path = beside.folder(self.office.path, turns.KEEP)
+        return os.path.exists(path) and os.path.samestat(os.stat(path), os.fstat(self.lock.fileno()))
 
     async def serve_once(self, want: FileIO, turn: FileIO) -> str:
         """Runs one `serve`, with the office alone, while its file has the name; gives its fault, or "". No length of a
@@ -123,7 +131,7 @@ class Keep:
             fault = "serve cannot be watched"
             try:
                 want.close()
-                while (not self.hold.over.is_set() and self.office.today() == day
+                while (not self.hold.over.is_set() and self.office.today() == day and self.has_lock()
                        and os.stat(self.office.path).st_ino == file):  # another can be put in its place, or none
                     with contextlib.suppress(TimeoutError):
                         await asyncio.wait_for(self.hold.over.wait(), DAY_PAUSE)
@@ -213,12 +221,18 @@ def place_of(given: str) -> str:
     return os.path.join(os.path.abspath(given), SOCKET) if os.path.isdir(given) else ""
 
 
+def locked(office: Office) -> FileIO:
+    """keep.lock, held until it is closed. Raises `Trouble` where another `keep` serves the office."""
+    lock = turns.lock_file(office, turns.KEEP)
+    if not turns.try_lock(lock, lock=fcntl.lockf):
+        raise Trouble(RUNS)
+    return lock
+
+
 def run(office: Office, place: str, days: int) -> None:
-    """Serves until a signal ends it. Raises `Trouble` where another `keep` serves the office."""
+    """Serves until a signal ends it. Raises `Trouble` as `locked`."""
     signal.signal(signal.SIGUSR1, signal.SIG_IGN)  # a command that comes before the handler need not step it aside
-    with turns.lock_file(office, "keep.lock") as lock:
-        if not turns.try_lock(lock, lock=fcntl.lockf):
-            raise Trouble(RUNS)
+    with locked(office) as lock:
         asyncio.run(Keep(office, place, lock, days).run())
 
 

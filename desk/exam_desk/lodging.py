@@ -11,7 +11,6 @@ from exam_desk.office import NoCandidate, Office, Trouble
 from exam_desk.running import Ran
 
 TRIES, SECONDS = 3, 60
-REFS = "SELECT ref FROM appeal WHERE number = ?"
 
 
 @contextlib.contextmanager
@@ -52,7 +51,7 @@ def lodge(office: Office, words: Sequence[str]) -> Answered:
     beside.refuse_stranger(office.path)
     with snapshot.rows(office) as rows:
         code = facts.access_codes(rows).get(words[0])
-        refs = {ref for ref, in rows.execute(REFS, [int(words[0])])}
+        refs = {ref for ref, in rows.execute("SELECT ref FROM appeal WHERE number = ?", [int(words[0])])}
     if code is None:
         raise NoCandidate(words[0])
     ref = next(ref for place in itertools.count(1) if (ref := f"D{place}") not in refs)

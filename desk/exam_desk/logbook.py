@@ -16,7 +16,6 @@ from exam_desk.words import plain
 
 NAME = "log"
 WITH_REASON = {"decide": 4, "lodge": 6}  # words at most, behind which a reason stands, which is private
-BESIDE_OTHERS = ["lodge"]  # it goes the candidates' way, without the office for itself
 BEGINS, STEP = "begins", "step"
 ALL_BYTES = 1 << 30  # more than a log ever has
 
@@ -45,10 +44,10 @@ def shown(words: Sequence[str]) -> list[str]:
 
 
 def write(office: Office, words: Sequence[str], status: int | str, answer: str) -> None:
-    now = datetime.datetime.now().isoformat(" ", "seconds")
-    columns = [now, office.user, " ".join(shown(words)), str(status), answer]
-    line = "\t".join(map(plain, columns)) + "\n"
-    with open(beside.open_file(office.path, NAME, flags=os.O_WRONLY | os.O_CREAT | os.O_APPEND), "wb") as log:
+    when = datetime.datetime.now().isoformat(" ", "seconds")
+    line = "\t".join(map(plain, [when, office.user, " ".join(shown(words)), str(status), answer])) + "\n"
+    with (beside.naming(beside.folder(office.path, NAME)),
+          open(beside.open_file(office.path, NAME, flags=os.O_WRONLY | os.O_CREAT | os.O_APPEND), "wb") as log):
         log.write(line.encode("utf-8", "backslashreplace"))
 
 
@@ -64,9 +63,9 @@ def write_done(office: Office, words: Sequence[str], status: int | str, answer: 
 def logged(office: Office, words: Sequence[str], status: str = BEGINS, answer: str = "") -> Iterator[Outcome]:
     """A line in the log before a change, which waits until that is on the disk; and one with the outcome after it."""
     write(office, words, status, answer)
-    beside.sync(beside.folder(office.path, NAME))
     outcome = Outcome()
     try:
+        beside.sync(beside.folder(office.path, NAME))
         yield outcome
     finally:
         write_done(office, words, outcome.status, outcome.answer)
@@ -78,7 +77,7 @@ def unfinished(office: Office) -> Unfinished | None:
     from exam_desk import copies  # here, since the copies need the log
     found = dict[str, Unfinished]()  # by command: the last change, and lists that let go
     for when, _, command, status, answer in last_lines(office):
-        if status == BEGINS and command.split(" ")[0] not in BESIDE_OTHERS:
+        if status == BEGINS and command.split(" ")[0] != "lodge":  # that goes the candidates' way, beside changes
             found = {title: each for title, each in found.items() if each.lets_go}
             found.setdefault(command, Unfinished(when, command, answer)).lets_go = False
         elif command in found and status == STEP:

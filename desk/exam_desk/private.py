@@ -134,9 +134,7 @@ def moment(path: str) -> tuple[int, int, int, bytes | None] | None:
         raise OSError(errno.EINVAL, "is no file", path)
     if 0 <= time.time_ns() - first.st_mtime_ns < 20_000_000:  # a change within one tick of the clock is not seen
         return None
-    try:
-        with open(path + "-wal", "rb", opener=no_link) as file:
-            beginning = file.read(32)
-    except FileNotFoundError:
-        beginning = None
+    beginning = None
+    with contextlib.suppress(FileNotFoundError), open(path + "-wal", "rb", opener=no_link) as file:
+        beginning = file.read(32)
     return first.st_ino, first.st_size, first.st_mtime_ns, beginning

@@ -74,11 +74,6 @@ def help_text(office: Office, *words: str) -> str:
     return NAMED.sub(r"`office \1`", text)
 
 
-def takes(text: str) -> list[str]:
-    """The names of the words that a command takes, from its help."""
-    return re.findall("<([a-z]+)>", text[text.find("Usage: "):].partition("\n")[0])
-
-
 def begun(office: Office, path: str, port: int) -> subprocess.Popen[bytes]:
     """`serve` over a file at a port, as a child that is killed with this process. It saves what it answers before it
     answers, so nothing is lost. The thread that begins it must live as long: the system asks for that thread. Raises

@@ -30,6 +30,7 @@ PATIENCE = 60  # seconds that a command waits for others
 SILENCE = 5  # seconds after which it says behind whom it waits
 PAUSE = 0.01  # seconds from one try to the next
 NOTE_BYTES = 1024
+KEEP = "keep.lock"
 FLOCK = "hhqqi"  # struct flock of fcntl(2): type, whence, start, length, process
 Said = dict[str, Any]  # what `keep` says of itself: its pid always; place, state, and day and pid of its `serve`
 
@@ -40,11 +41,10 @@ def lock_file(office: Office, name: str) -> FileIO:
 
 
 def try_lock(file: FileIO, kind: int = fcntl.LOCK_EX, lock: Callable[[FileIO, int], None] = fcntl.flock) -> bool:
-    try:
+    with contextlib.suppress(BlockingIOError, PermissionError):
         lock(file, kind | fcntl.LOCK_NB)
-    except (BlockingIOError, PermissionError):
-        return False
-    return True
+        return True
+    return False
 
 
 def is_free(file: FileIO) -> bool:
@@ -100,7 +100,7 @@ def is_taken(office: Office, *names: str) -> bool:
 
 def keep_state(office: Office) -> Said | None:
     """What `keep` has said of itself; None where it does not run, as in a folder that is not ours alone."""
-    with contextlib.suppress(OSError, beside.Strange), open(beside.open_file(office.path, "keep.lock"), "rb") as lock:
+    with contextlib.suppress(OSError, beside.Strange), open(beside.open_file(office.path, KEEP), "rb") as lock:
         asked = fcntl.fcntl(lock, fcntl.F_GETLK, struct.pack(FLOCK, fcntl.F_WRLCK, os.SEEK_SET, 0, 0, 0))
         kind, *_, process = struct.unpack(FLOCK, asked)
         if kind != fcntl.F_UNLCK:

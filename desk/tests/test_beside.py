@@ -375,6 +375,17 @@ class Log(Beside):
                 self.assertEqual((synced.call_count - before, len(self.log())), (1, 1))
             self.assertEqual(self.log()[1:], [["withdraw", "1", "stopped: look whether it is done"]])
 
+    def test_a_log_without_room(self):
+        """It is named, and with it where room can be made; what did not begin was not broken off."""
+        with mock.patch("os.fsync", side_effect=OSError(28, "No space left on device")), self.assertRaises(OSError):
+            with logbook.logged(self.value, ["withdraw"]):
+                self.fail("it began")
+        self.assertIsNone(logbook.unfinished(self.value))
+        with (mock.patch("exam_desk.beside.open_file", lambda *_, **__: os.open("/dev/full", os.O_WRONLY)),
+              self.assertRaises(OSError) as raised):
+            logbook.write(self.value, ["lodge"], logbook.BEGINS, "")
+        self.assertEqual(raised.exception.filename, os.path.join(self.desk, "log"))
+
     def test_a_program_that_cannot_be_started(self):
         path = self.write("broken", "\x7fELF")
         os.chmod(path, 0o700)

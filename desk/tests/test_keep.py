@@ -178,6 +178,30 @@ class Kept(sample.KeptSchool):
         self.assertEqual(self.appeal("HA1"), (200, {"state": "open"}))
         self.assertEqual(self.stored(), [("HA1", 1)])
 
+    def test_an_office_that_was_moved_away_with_its_folder(self):
+        """As for a new year, beside a `keep` that nobody ended: no folder is made where no office is, and the commands of
+        the office that comes there find `keep`."""
+        serve, away = self.served_by(), os.path.join(self.folder, "2026")
+        os.mkdir(away)
+        for name in [*os.listdir(self.folder)]:
+            if "office.db" in name:
+                os.rename(os.path.join(self.folder, name), os.path.join(away, name))
+        sample.until(lambda: has_ended(serve))
+        time.sleep(keeping.FAULT_PAUSE + 1)  # it tries again
+        self.assertEqual(os.listdir(self.folder), ["2026"])
+        self.assertEqual(self.office("init"), "ready\n")
+        sample.until(lambda: self.state().get("state") == "serving")
+        self.assertEqual((self.office("check"), self.ask()), ("good\n", (404, {"error": 6})))
+        self.assertIn("does not run", self.refused("keep", "stop", OFFICE=f"{away}/office.db"))
+        self.assertEqual(self.office("keep", "stop"), "ended\n")
+
+    def test_a_folder_that_was_moved_away_alone(self):
+        """With the locks in it: the next command takes the office from nobody, and finds `keep`."""
+        os.rename(self.desk, f"{self.desk}.away")
+        sample.until(lambda: self.state().get("state") == "serving")
+        self.assertEqual(self.office("withdraw", "0001000", "MA-1"), "withdrawn\n")
+        self.assertEqual(self.ask()[0], 200)
+
     def test_a_missing_second_file(self):
         self.office("keep", "stop")
         with contextlib.closing(sqlite3.connect(self.path)) as file:
@@ -245,6 +269,36 @@ class Beginning(sample.SampleSchool):
                 keeping.say("second")
             journal.seek(0)
             self.assertRegex(journal.read(), r"\A\S+ \S+ first\n\Z")
+
+
+class Ending(sample.SampleSchool):
+    def test_what_nohup_ignores_does_not_end_it(self):
+        line = ["sh", "-c", "trap '' HUP; exec \"$@\"", "sh", sample.DESK / "office", "keep", "run", str(sample.free_port())]
+        with subprocess.Popen(line, env=self.environment, stderr=subprocess.DEVNULL) as process:
+            sample.until(lambda: "serving" in beside.text_of(self.path, "keep.lock"))
+            process.send_signal(signal.SIGHUP)
+            self.office("withdraw", "0001000", "MA-1")
+            self.assertIsNone(process.poll())
+            process.terminate()
+        self.assertEqual(process.returncode, 0)
+
+    def test_no_client_who_waits_holds_its_end_up(self):
+        """Newer pythons end a server only once its last client has gone, which would be half a minute."""
+        with (mock.patch("asyncio.base_events.Server.wait_closed", lambda _: asyncio.Event().wait()),
+              mock.patch("exam_desk.keeping.say")):
+            asyncio.run(self.ends_beside_a_client())
+
+    async def ends_beside_a_client(self):
+        asyncio.get_running_loop().set_exception_handler(lambda *_: None)  # some pythons complain of who is cut off
+        with turns.lock_file(self.value, "keep.lock") as lock:
+            keep = keeping.Keep(self.value, port := str(sample.free_port()), lock)
+            served = asyncio.create_task(keep.run())
+            async with asyncio.timeout(sample.PATIENCE):
+                await keep.hold.opened.wait()
+            _, writer = await asyncio.open_connection("127.0.0.1", int(port))
+            keep.end()
+            await asyncio.wait_for(served, keeping.STOP_SECONDS)
+            writer.close()
 
 
 class NewDay(sample.SampleSchool):

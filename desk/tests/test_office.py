@@ -35,6 +35,14 @@ class Faults(unittest.TestCase):
                 command.tell(type(fault), fault, None)
             self.assertEqual(out.getvalue(), f"office: {said}\n")
 
+    def test_a_python_without_what_papers_need(self):
+        """As one of a version manager; every other module that is missing is a fault of the desk."""
+        for name, is_told in ("markupsafe", True), ("exam_desk.none", False):
+            with mock.patch("sys.__excepthook__") as calls, redirect_stderr(io.StringIO()) as out:
+                command.tell(ModuleNotFoundError, ModuleNotFoundError(name=name), None)
+            self.assertEqual((f"office: {sys.executable} lacks what papers need: `apt install " in out.getvalue(),
+                              calls.called), (is_told, not is_told), name)
+
     def test_how_far_many_questions_are(self):
         """It is shown after each hundred, and goes behind the last one."""
         with mock.patch("command.progress") as shown:

@@ -1,7 +1,12 @@
 """The man pages and the completion say what the program's help says."""
+import contextlib
+import os
 import pathlib
+import pty
 import re
+import select
 import shutil
+import signal
 import subprocess
 import sys
 import tempfile
@@ -10,6 +15,7 @@ import unittest
 sys.path.insert(0, str(pathlib.Path(__file__).resolve().parent.parent))
 import help_pages  # noqa: E402
 
+PATIENCE = 20  # seconds
 KEEP = """usage: office keep [-h] {start,run,status} [PLACE]
 
 positional arguments:
@@ -83,8 +89,35 @@ class HelpPages(unittest.TestCase):
         for said in ("import <kind> <file>", "'quoted' and .dotted lines", "  22 not enough memory", "Print help"):
             self.assertIn(said, shown)
 
+    def test_names_of_files(self):
+        """With blanks, or typed in quotes: bash itself finds them where the function offers nothing."""
+        script = help_pages.completion(self.commands, {"why": "", "keep": KEEP})
+        for typed in "import entries la\t", "import entries 'la\t", "import entries late\\ e\t", "back la\t":
+            with self.subTest(typed), tempfile.TemporaryDirectory() as folder:
+                pathlib.Path(folder, "late entries.csv").touch()
+                pathlib.Path(folder, "rc").write_text(f"{script}\noffice() {{ printf '<%s>' \"$@\"; exit; }}\nPS1='ready:'\n", "utf-8")
+                self.assertIn("<late entries.csv>", self.at_a_terminal(folder, f"office {typed}\n"))
+
+    def at_a_terminal(self, folder, typed):
+        """What bash shows behind its prompt until it ends, or nothing more comes."""
+        process, terminal = pty.fork()
+        if process == 0:
+            os.chdir(folder)
+            os.execvp("bash", ["bash", "--noprofile", "--rcfile", "rc", "-i"])
+        shown = b""
+        with contextlib.suppress(OSError):  # nobody has its other end any more
+            while select.select([terminal], [], [], PATIENCE)[0]:
+                shown += os.read(terminal, 1 << 12)
+                if typed and shown.endswith(b"ready:"):
+                    os.write(terminal, typed.encode())
+                    typed = ""
+        os.kill(process, signal.SIGKILL)
+        os.close(terminal)
+        os.waitpid(process, 0)
+        return shown.decode()
+
     def complete(self, *words):
-        """What bash offers for the last word."""
+        """What the function offers for the last word."""
         script = help_pages.completion(self.commands, {"why": "", "keep": KEEP})
         given = " ".join(f"'{word}'" for word in words)
         script += f'\nCOMP_WORDS=({given}); COMP_CWORD={len(words) - 1}\n_examoffice {words[0]}; echo "${{COMPREPLY[*]}}"\n'
@@ -96,13 +129,13 @@ class HelpPages(unittest.TestCase):
     def test_completion(self):
         for words, offered in (
             (["examoffice", "--db", "office.db", "--today", "2027-05-01", "im"], "import"),
-            (["examoffice", "--d"], "--db"), (["examoffice", "--db", "a"], "a file"),
+            (["examoffice", "--d"], "--db"), (["examoffice", "--db", "a"], ""),
             (["examoffice", "--db", "a", "--today", "b", "import", "pap"], "papers"),
             (["office", ""], "import init why keep"), (["office", "import", ""], "sessions papers halls"),
-            (["office", "import", "halls", "a"], "a file"), (["office", "init", ""], "a file"),
-            (["office", "keep", "st"], "start status"), (["office", "keep", "start", ""], "a file"),
+            (["office", "import", "halls", "a"], ""), (["office", "init", ""], ""),
+            (["office", "keep", "st"], "start status"), (["office", "keep", "start", ""], ""),
             (["office", "what-if", "im"], "import"), (["office", "what-if", "import", "pap"], "papers"),
-            (["office", "what-if", "import", "halls", "a"], "a file"), (["examoffice", "what-if", "im"], ""),
+            (["office", "what-if", "import", "halls", "a"], ""), (["examoffice", "what-if", "im"], ""),
         ):
             with self.subTest(words):
                 self.assertEqual(self.complete(*words), offered)
