@@ -427,3 +427,9 @@ case("called-like-a-total", xlsx(candidates(ADA, [None, "Sum Ting", "CODE0002"],
 case("joined-too-long", xlsx(sheet("Candidates", ["number", "Vorname", "Nachname", "code"], ["0000001", 50 * "a", 50 * "b",
      "CODE0001"])), 1, only=True, mistakes=[["Candidates!B2", "it has 101"]])
 in_candidates("string-value", ods_row(cell('office:value-type="string" office:string-value="0000001"'), *ADA[1:]), files=A, quiet=True)
+case("columns-that-a-table-numbers", xlsx(TWO_PAPERS, sheet("Entries", ["number", "Paper", "Paper2"], ["0000001", "MA-1", "FR"]),
+     sheet("Arrangements", ["number", "needs", "needs.1", "extra"], ["0000001", "quiet", "reader", 25])), 1, only=True,
+     mistakes=[["Entries!C1", "columns B, C could all be paper: keep one header"], ["Arrangements!C1", "columns B, C could all be needs"]])
+case("columns-that-a-table-numbers-and-a-file-tells-apart", xlsx(TWO_PAPERS, sheet("Entries", ["number", "Paper", "Paper2"], ["0000001", "MA-1", "FR"])),
+     files={"papers": TWO_LINES, "entries": ["0000001,MA-1"]}, args=["--columns", "{here}/columns.toml"],
+     beside={"columns.toml": '[entries]\npaper = "Paper"\n'}, told=[["Entries!C1", "the column 'Paper2' is not read"]])
