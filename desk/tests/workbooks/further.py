@@ -440,3 +440,7 @@ case("header-sorted-among-its-rows", xlsx(TWO_PAPERS, sheet("Candidates", ["0000
                ["Arrangements!2", "above the header in row 3"], ["Entries!1", "above the header in row 2"]])
 case("titles-like-codes-and-names", xlsx(sheet("Openings", ["OPENINGS", "2027"], ["S1", "HALLS", None, "May"], OPENINGS, ["S1", "A", 10, "12:00", "no"]),
      sheet("Candidates", ["Form 7", "Ms Lin", "ROOM1234"], CANDIDATES, ADA)), files={"openings": ["S1,A,10,12:00,no"], "candidates": [ADA_LINE]})
+NAMED = {"suffix": "csv", "args": ["--encoding", "cp1252"], "files": {"candidates": ["0000001,Zo\u00eb,CODE0001"]}}
+for name, text in ("csv-utf-8-whatever-is-named", "number,name,code\n0000001,Zo\u00eb,CODE0001\n".encode()), (
+        "csv-with-a-mark-whatever-is-named", '\ufeff"number","name","code"\n"0000001","Zo\u00eb","CODE0001"\n'.encode()):
+    case(name, text, told=[["", "0 mistakes, 0 changes, 1 note"]], **NAMED)
