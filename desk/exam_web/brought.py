@@ -41,7 +41,7 @@ class Upload:
     lines: list[tables.Line] = field(default_factory=list)  # on the sheets of the books, those of one kind together
     counts: Counter[str] = field(default_factory=Counter)  # of the lines when each stood alone, by their sort
     rows: dict[str, list[tuple[bytes, ...]]] = field(default_factory=dict)  # of sheets with mistakes, by kind
-    is_called_list: bool = False  # a file, or a sheet of entries, is called withdrawals or reinstatements
+    sources: dict[str, tuple[str, ...]] = field(default_factory=dict)  # by kind, how what is taken is called
     notes: list[Markup] = field(default_factory=list)
     mistakes: int = 0  # that the last look found
     corrected: int = 0  # how often: lines of a page from before are those of other rows
@@ -52,17 +52,22 @@ class Upload:
     def kinds(self) -> list[str]:
         return [kind for kind in files.HEADERS if kind in self.texts]
 
+    @property
+    def is_called_list(self) -> bool:
+        """Whether the entries are of a file, or of a sheet, that is called withdrawals or reinstatements."""
+        return any(map(is_called_list, self.sources.get("entries", ())))
+
     def note(self, name: str, words: Markup) -> None:
         note = Markup("{}: {}").format(shown(name[:MOST_NAME]), words)
         self.notes += [note] * (note not in self.notes)
 
-    def take(self, kind: str, content: bytes, name: str) -> None:
+    def take(self, kind: str, content: bytes, name: str, *sheets: str) -> None:
         if content == self.texts.get(kind):
             self.note(name, text("it is there twice, and is taken once"))
         elif kind in self.texts:
             self.note(name, text("another file has {kind} too: import that one, then bring this by itself", kind=kind))
         else:
-            self.texts[kind] = content
+            self.texts[kind], self.sources[kind] = content, (name, *sheets)
 
 
 def taken(storages: Iterable[FileStorage], way: Way, hidden: str) -> Upload:
@@ -70,7 +75,6 @@ def taken(storages: Iterable[FileStorage], way: Way, hidden: str) -> Upload:
     upload = Upload(way, hidden)
     for name, content, most in parts(upload, storages):
         upload.names.append(name[-MOST_NAME:])
-        upload.is_called_list |= is_called_list(name)
         take(upload, name, content, most)
     read_books(upload)
     upload.books = []
@@ -184,9 +188,9 @@ def take_rows(upload: Upload, name: str, form: str, job: tables.Job) -> None:
         upload.rows = {kind: [tuple(map(files.encoded, each.fields)) for each in found]
                        for kind, found in job.records.items()}
         return
-    upload.is_called_list |= any(is_called_list(each.sheet.name) for each in job.records.get("entries", []))
     for kind, found in job.records.items():
-        upload.take(kind, files.file_of(kind, [each.fields for each in found]), name)
+        called = [*(book for book, _ in upload.books), *{each.sheet.name for each in found}]
+        upload.take(kind, files.file_of(kind, [each.fields for each in found]), name, *called)
 
 
 def below_header(content: bytes) -> Iterator[files.Record]:

@@ -523,6 +523,19 @@ class TestFiles(Uploads):
         page = self.upload(("withdrawals.csv", text), ("halls.csv", b"hall,title,features\nR20,Room 20,-\n"))
         self.propose(page, 422, choice="withdraw")
 
+    def test_a_list_beside_other_entries_is_not_meant(self):
+        """It is left, with a note; what is withdrawn bears the name of the file that has it."""
+        leavers = workbook({"Sheet1": [["number", "paper"], ["0001085", "LAT"]]})
+        for left in ("withdrawals.csv", b"number,paper\n0001085,LAT\n"), ("withdrawals.xlsx", leavers), ("Abmeldung.pdf", b"x"):
+            page = self.upload(("entries.csv", b"number,paper\n0001051,EN-1\n"), left)
+            words = self.browser.words(page)
+            self.assertIn(f"{left[0]} : ", words)
+            self.assertNotIn("called a list", words)
+            self.assertIn("The office has this entry already", words)
+        self.carry_out(self.propose(page, choice="withdraw"))
+        self.assertIn("\twithdraw --list entries.csv\t", self.log())
+        self.assertNotIn("Abmeldung", self.log())
+
     def test_equal_lines_on_a_workbook_stand_together(self):
         rows = [[12000 + place, f"N {place}", f"K4WBN7RT{place:02}"] for place in range(1, 31)]
         page = self.upload(("school.xlsx", workbook({"Candidates": [["number", "name", "code"], *rows]})))
