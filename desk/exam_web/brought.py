@@ -182,7 +182,7 @@ def take_rows(upload: Upload, name: str, form: str, job: tables.Job) -> None:
         upload.note(name, said(NO_WORKBOOK) if is_broken else text(
             "it has no row below the header of one of the seven files: take the empty workbook of the page Files"))
         return
-    upload.lines = [line for line in tables.together(job.lines) if line.what != mistakes.NO_CODE]
+    upload.lines = tables.together(job.lines)
     upload.counts = Counter(line.sort for line in job.lines)
     if upload.counts["mistake"]:
         upload.rows = {kind: [tuple(map(files.encoded, each.fields)) for each in found]

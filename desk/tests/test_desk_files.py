@@ -114,6 +114,19 @@ class TestFiles(Uploads):
         self.assertEqual(now, kept)
         self.assertNotIn(made, kept.values())
 
+    def test_a_code_that_was_lost_after_the_upload_does_not_come_back(self):
+        """A workbook without codes: whoever is in the office keeps the code of the import's day."""
+        (number, name), = self.rows("SELECT printf('%07d', number), name FROM candidate ORDER BY number LIMIT 1")
+        page = self.upload(("s.xlsx", workbook({"Candidates": [["number", "name"], [number, name], [12001, "Nadia"]]})))
+        self.assertIn("1 candidate has no access code", self.browser.words(page))
+        self.run_office("codes", number)
+        kept = self.rows(f"SELECT code FROM candidate WHERE number = {number}")
+        proposal = self.propose(page, codes="1")
+        self.assertNotIn("another access code", self.browser.words(proposal))
+        self.carry_out(proposal)
+        self.assertEqual(self.rows(f"SELECT code FROM candidate WHERE number = {number}"), kept)
+        self.assertEqual(self.rows("SELECT name FROM candidate WHERE number = 12001"), [("Nadia",)])
+
     def test_many_empty_codes_are_one_line(self):
         """In a file of the seven and in a workbook, also where the file lacks the column."""
         people = [f"001{place:04}" for place in range(200)]

@@ -42,7 +42,8 @@ def read_book(book: Book, job: Job) -> Job:
     if not job.records and not job.count("mistake"):
         where = ": see `office template`" if job.way.is_command else ""
         job.mistake(f"no sheet has rows of one of the seven kinds{where}")
-    keep_codes(job)
+    if job.way.is_command:  # a page fills codes in when it imports: by then a lost one may be another
+        keep_codes(job)
     said = {line.place for line in job.lines if line.sort == "mistake"}
     for kind, rows in job.records.items():
         job.progress(f"{kind}: check of {len(rows):,} rows")
