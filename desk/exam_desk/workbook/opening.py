@@ -87,18 +87,13 @@ def comma_of(lines: list[str]) -> str:
     return max(counts, key=lambda mark: max(((often, many) for many, often in counts[mark].items()), default=(0, 0)))
 
 
-def encoding_of(data: bytes, named: str | None) -> str:
-    """That of a CSV file. The one that somebody names is for what is not UTF-8: other files of a folder may be it."""
-    is_utf_8 = data.startswith(files.BOM) or b"\0" not in data and not data.isascii() and files.is_utf_8(data)
-    return named if named and not is_utf_8 else "utf-16" if data.startswith(UTF_16) else "utf-8-sig"
-
-
 def read_csv(data: bytes, name: str, encoding: str | None = None) -> Book:
-    """A file of one sheet whose cells are texts."""
+    """A file of one sheet whose cells are texts. The encoding is for what is not UTF-8: others of a folder may be."""
     budget, sheet = Budget(), Sheet(name)
     cell_of = functools.cache(lambda shown: Cell("text", re.sub(r'\A="([^"]*)"\Z', r"\1", shown), shown))
     try:
-        text = data.decode(encoding_of(data, encoding))
+        is_utf_8 = data.startswith(files.BOM) or b"\0" not in data and not data.isascii() and files.is_utf_8(data)
+        text = data.decode(not is_utf_8 and encoding or ("utf-16" if data.startswith(UTF_16) else "utf-8-sig"))
         comma = comma_of([line for line in text[:1 << 16].splitlines()[:20] if line.strip()])
         for record in files.records(text.encode(), comma.encode()):
             if not record.closed:

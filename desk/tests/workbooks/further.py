@@ -444,3 +444,5 @@ NAMED = {"suffix": "csv", "args": ["--encoding", "cp1252"], "files": {"candidate
 for name, text in ("csv-utf-8-whatever-is-named", "number,name,code\n0000001,Zo\u00eb,CODE0001\n".encode()), (
         "csv-with-a-mark-whatever-is-named", '\ufeff"number","name","code"\n"0000001","Zo\u00eb","CODE0001"\n'.encode()):
     case(name, text, told=[["", "0 mistakes, 0 changes, 1 note"]], **NAMED)
+case("crosses-below-two-rows-of-headers", xlsx(TWO_PAPERS, sheet("Entries", ["Candidate", None, "Papers"], ["number", "name", "MA-1", "FR"],
+     ["0000001", "Ada Lin", "x", None])), files={"papers": TWO_LINES, "entries": ["0000001,MA-1"]}, told=[["Entries!2", "what stands above it is not read"]])
