@@ -217,7 +217,7 @@ def withdraw_list(upload: Upload, what: str, page: Page, done: Callable[[], None
         raise Wrong(page, choice=Markup("; ").join([counted, *left[:MOST_NAMED]]))
     more = [text("and {count} more", count=len(left) - MOST_SHOWN)] * (len(left) > MOST_SHOWN)
     return Plan({"kinds": "entries", "choice": what, "count": str(len(steps))}, steps, page, done=done,
-                command=f"{what} --list {upload.sources['entries'][0][:MOST_NAME]}", made_for=view().name,
+                command=f"{what} --list {upload.sources['entries'][:MOST_NAME]}", made_for=view().name,
                 look=lambda before, after: [*left[:MOST_SHOWN], *more])
 
 

@@ -339,6 +339,19 @@ class TestFiles(Uploads):
             self.assertRegex(self.browser.get(page), "<h1><bdi>1</bdi> mistake ", names)
             self.assertIn("hall 'ATRIUM': is not among the halls", self.browser.words(page))
 
+    def test_numbers_without_zeros_are_known_to_a_workbook_beside_them(self):
+        """Once their cures are taken nothing is left that is wrong; what is no UTF-8 stops nothing."""
+        people = b"number,name,code\n12001,Nadia,K4WBN7RTQD\n12008,Tom,K4WBN7RTQE\n"
+        crosses = workbook({"Entries": [["number", "EN-1"], [12001, "x"], [12008, "x"]]})
+        page = self.upload(("candidates.csv", people), ("e.xlsx", crosses))
+        self.assertIn(" 2 mistakes ", self.browser.words(page))
+        self.browser.post(page + "/correct", page, all="1")
+        self.assertIn("No mistake", self.browser.words(page))
+        self.carry_out(self.propose(page, choice="enter"))
+        self.assertLess({"0012001", "0012008"}, self.live())
+        papers = b"paper,title,session,minutes,requires\nGE\xff1,Geo,MON-AM,60,-\n"
+        self.assertIn(" 1 mistake ", self.browser.words(self.upload(("papers.csv", papers), ("e.xlsx", crosses))))
+
     def test_what_is_read_of_one_workbook_is_known_to_another(self):
         """A sheet that is hidden, until the form says that it counts, has the session of which the other speaks."""
         hidden = workbook({"Sessions": [["session", "date", "start"], ["FRI-AM", "2027-06-11", "09:00"]],
