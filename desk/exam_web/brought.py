@@ -41,7 +41,8 @@ class Upload:
     lines: list[tables.Line] = field(default_factory=list)  # on the sheets of the books, those of one kind together
     counts: Counter[str] = field(default_factory=Counter)  # of the lines when each stood alone, by their sort
     rows: dict[str, list[tuple[bytes, ...]]] = field(default_factory=dict)  # of sheets with mistakes, by kind
-    is_called_list: bool = False  # a file, or a sheet of entries, is called withdrawals or reinstatements
+    sources: dict[str, str] = field(default_factory=dict)  # by kind, from which file, or files, it is taken
+    is_called_list: bool = False  # what the entries come from is called withdrawals or reinstatements
     notes: list[Markup] = field(default_factory=list)
     mistakes: int = 0  # that the last look found
     corrected: int = 0  # how often: lines of a page from before are those of other rows
@@ -56,13 +57,14 @@ class Upload:
         note = Markup("{}: {}").format(shown(name[:MOST_NAME]), words)
         self.notes += [note] * (note not in self.notes)
 
-    def take(self, kind: str, content: bytes, name: str) -> None:
+    def take(self, kind: str, content: bytes, name: str, *sheets: str) -> None:
         if content == self.texts.get(kind):
             self.note(name, text("it is there twice, and is taken once"))
         elif kind in self.texts:
             self.note(name, text("another file has {kind} too: import that one, then bring this by itself", kind=kind))
         else:
-            self.texts[kind] = content
+            self.texts[kind], self.sources[kind] = content, name
+            self.is_called_list |= kind == "entries" and any(map(is_called_list, (name, *sheets)))
 
 
 def taken(storages: Iterable[FileStorage], way: Way, hidden: str) -> Upload:
@@ -70,7 +72,6 @@ def taken(storages: Iterable[FileStorage], way: Way, hidden: str) -> Upload:
     upload = Upload(way, hidden)
     for name, content, most in parts(upload, storages):
         upload.names.append(name[-MOST_NAME:])
-        upload.is_called_list |= is_called_list(name)
         take(upload, name, content, most)
     read_books(upload)
     upload.books = []
@@ -113,8 +114,7 @@ def take(upload: Upload, name: str, content: bytes, most: int) -> None:
     reasons = [
         (not content.strip(), text("it is empty: save it once more, then bring it again")),
         (name.lower().endswith(NO_TABLE), text("it is no table: bring what a spreadsheet saves as .xlsx, .ods or CSV")),
-        (is_columns and upload.given is not None,
-         text("another file says already what headers mean: bring one alone")),
+        (is_columns and upload.given is not None, text("another file says already what headers mean: bring one alone")),
         (content.startswith(backups.OFFICE), text("it is an office: the page Office takes a backup back")),
         (len(content) > most, text("it has more than {most} bytes: split it", most=most)),
         ((name[-MOST_NAME:], content) in upload.books, text("it is there twice, and is taken once"))]
@@ -136,9 +136,8 @@ def read_books(upload: Upload) -> None:
     if not (book := together(upload)).sheets:
         return
     known = mistakes.Known(view().reading.rows)
-    for kind, content in upload.texts.items():
-        known.take(kind, [row.fields for row in below_header(content)
-                          if len(row.fields) == len(files.HEADERS[kind]) and all(map(files.is_utf_8, row.fields))])
+    for kind, content in upload.texts.items():  # what they bring is known, with the zeros that numbers have lost
+        mistakes.looked_through(kind, content, known)
     names = [sheet.name for sheet in book.sheets] if upload.hidden == "take" else None
     job = tables.Job(known, upload.way, upload.given or {}, names, hidden=upload.hidden)
     try:
@@ -165,28 +164,26 @@ def together(upload: Upload) -> Book:
         names = {sheet.name for sheet in whole.sheets}
         book = name if called.count(name) == 1 else f"{number}. {name}"
         sheets = [replace(each, book=book) if each.name in names else each for each in found.sheets]
-        notes = [f"{name}: {note}" for note in found.notes]
         form = whole.form if found.form == "csv" else found.form
-        whole = Book(form, [*whole.sheets, *sheets], [*whole.notes, *notes])
+        whole = Book(form, [*whole.sheets, *sheets], [*whole.notes, *(f"{name}: {note}" for note in found.notes)])
     return whole
 
 
 def take_rows(upload: Upload, name: str, form: str, job: tables.Job) -> None:
     """Takes the rows of the sheets where no line is a mistake; else the files know of them, and they are not taken."""
     if not job.records and not any(line.sheet and line.sort == "mistake" for line in job.lines):
-        is_broken = form == "csv" and name.lower().endswith(files.TABLES[1:])
-        upload.note(name, said(NO_WORKBOOK) if is_broken else text(
+        upload.note(name, said(NO_WORKBOOK) if form == "csv" and name.lower().endswith(files.TABLES[1:]) else text(
             "it has no row below the header of one of the seven files: take the empty workbook of the page Files"))
         return
-    upload.lines = [line for line in tables.together(job.lines) if line.what != mistakes.NO_CODE]
+    upload.lines = tables.together(job.lines)
     upload.counts = Counter(line.sort for line in job.lines)
     if upload.counts["mistake"]:
         upload.rows = {kind: [tuple(map(files.encoded, each.fields)) for each in found]
                        for kind, found in job.records.items()}
         return
-    upload.is_called_list |= any(is_called_list(each.sheet.name) for each in job.records.get("entries", []))
     for kind, found in job.records.items():
-        upload.take(kind, files.file_of(kind, [each.fields for each in found]), name)
+        called = [*(book for book, _ in upload.books), *{each.sheet.name for each in found}]
+        upload.take(kind, files.file_of(kind, [each.fields for each in found]), name, *called)
 
 
 def below_header(content: bytes) -> Iterator[files.Record]:

@@ -14,7 +14,7 @@ from exam_desk.mistakes import Mistake
 from exam_desk.workbook.headers import HEADER_WORDS
 from exam_desk.workbook.values import Way
 from exam_desk.words import plain
-from exam_web.brought import Upload, below_header, taken
+from exam_web.brought import MOST_NAME, Upload, below_header, taken
 from exam_web.desk import Form, Page, Wrong, archive, at_field, attached, keep, lead, view
 from exam_web.proposals import PLANS, Plan
 from exam_web.wording import many, text
@@ -217,7 +217,7 @@ def withdraw_list(upload: Upload, what: str, page: Page, done: Callable[[], None
         raise Wrong(page, choice=Markup("; ").join([counted, *left[:MOST_NAMED]]))
     more = [text("and {count} more", count=len(left) - MOST_SHOWN)] * (len(left) > MOST_SHOWN)
     return Plan({"kinds": "entries", "choice": what, "count": str(len(steps))}, steps, page, done=done,
-                command=f"{what} --list {upload.names[-1]}", made_for=view().name,
+                command=f"{what} --list {upload.sources['entries'][:MOST_NAME]}", made_for=view().name,
                 look=lambda before, after: [*left[:MOST_SHOWN], *more])
 
 

@@ -114,6 +114,19 @@ class TestFiles(Uploads):
         self.assertEqual(now, kept)
         self.assertNotIn(made, kept.values())
 
+    def test_a_code_that_was_lost_after_the_upload_does_not_come_back(self):
+        """A workbook without codes: whoever is in the office keeps the code of the import's day."""
+        (number, name), = self.rows("SELECT printf('%07d', number), name FROM candidate ORDER BY number LIMIT 1")
+        page = self.upload(("s.xlsx", workbook({"Candidates": [["number", "name"], [number, name], [12001, "Nadia"]]})))
+        self.assertIn("1 candidate has no access code", self.browser.words(page))
+        self.run_office("codes", number)
+        kept = self.rows(f"SELECT code FROM candidate WHERE number = {number}")
+        proposal = self.propose(page, codes="1")
+        self.assertNotIn("another access code", self.browser.words(proposal))
+        self.carry_out(proposal)
+        self.assertEqual(self.rows(f"SELECT code FROM candidate WHERE number = {number}"), kept)
+        self.assertEqual(self.rows("SELECT name FROM candidate WHERE number = 12001"), [("Nadia",)])
+
     def test_many_empty_codes_are_one_line(self):
         """In a file of the seven and in a workbook, also where the file lacks the column."""
         people = [f"001{place:04}" for place in range(200)]
@@ -326,6 +339,19 @@ class TestFiles(Uploads):
             self.assertRegex(self.browser.get(page), "<h1><bdi>1</bdi> mistake ", names)
             self.assertIn("hall 'ATRIUM': is not among the halls", self.browser.words(page))
 
+    def test_numbers_without_zeros_are_known_to_a_workbook_beside_them(self):
+        """Once their cures are taken nothing is left that is wrong; what is no UTF-8 stops nothing."""
+        people = b"number,name,code\n12001,Nadia,K4WBN7RTQD\n12008,Tom,K4WBN7RTQE\n"
+        crosses = workbook({"Entries": [["number", "EN-1"], [12001, "x"], [12008, "x"]]})
+        page = self.upload(("candidates.csv", people), ("e.xlsx", crosses))
+        self.assertIn(" 2 mistakes ", self.browser.words(page))
+        self.browser.post(page + "/correct", page, all="1")
+        self.assertIn("No mistake", self.browser.words(page))
+        self.carry_out(self.propose(page, choice="enter"))
+        self.assertLess({"0012001", "0012008"}, self.live())
+        papers = b"paper,title,session,minutes,requires\nGE\xff1,Geo,MON-AM,60,-\n"
+        self.assertIn(" 1 mistake ", self.browser.words(self.upload(("papers.csv", papers), ("e.xlsx", crosses))))
+
     def test_what_is_read_of_one_workbook_is_known_to_another(self):
         """A sheet that is hidden, until the form says that it counts, has the session of which the other speaks."""
         hidden = workbook({"Sessions": [["session", "date", "start"], ["FRI-AM", "2027-06-11", "09:00"]],
@@ -522,6 +548,19 @@ class TestFiles(Uploads):
         self.assertIn('value="enter" required checked', self.browser.get(page))
         page = self.upload(("withdrawals.csv", text), ("halls.csv", b"hall,title,features\nR20,Room 20,-\n"))
         self.propose(page, 422, choice="withdraw")
+
+    def test_a_list_beside_other_entries_is_not_meant(self):
+        """It is left, with a note; what is withdrawn bears the name of the file that has it."""
+        leavers = workbook({"Sheet1": [["number", "paper"], ["0001085", "LAT"]]})
+        for left in ("withdrawals.csv", b"number,paper\n0001085,LAT\n"), ("withdrawals.xlsx", leavers), ("Abmeldung.pdf", b"x"):
+            page = self.upload(("entries.csv", b"number,paper\n0001051,EN-1\n"), left)
+            words = self.browser.words(page)
+            self.assertIn(f"{left[0]} : ", words)
+            self.assertNotIn("called a list", words)
+            self.assertIn("The office has this entry already", words)
+        self.carry_out(self.propose(page, choice="withdraw"))
+        self.assertIn("\twithdraw --list entries.csv\t", self.log())
+        self.assertNotIn("Abmeldung", self.log())
 
     def test_equal_lines_on_a_workbook_stand_together(self):
         rows = [[12000 + place, f"N {place}", f"K4WBN7RT{place:02}"] for place in range(1, 31)]

@@ -635,6 +635,18 @@ class Commands(sample.SampleSchool):
             self.assertEqual(self.rows("facts", kind), self.rows("broken-mended", kind))
         self.assertIn("7 files, 0 mistakes", self.office("check-files", "broken-mended"))
 
+    def test_the_encoding_that_is_named_is_for_the_files_that_have_another(self) -> None:
+        """A spreadsheet saved one of the seven in its own; the others have accents and a mark as they were written."""
+        self.office("name", "1000", "Zo\u00eb Lin")
+        self.office("import", "halls", self.write("halls.csv", "hall,title,features\nCAF,Caf\u00e9,-\n"))
+        self.office("dump", "facts")
+        path = pathlib.Path(self.folder, "facts", "candidates.csv")
+        path.write_bytes(path.read_text("utf-8-sig").encode("cp1252"))
+        self.assertIn("or say --encoding cp1252", self.refused("mend", "facts"))
+        self.assertIn("0 mistakes, 0 changes", self.office("mend", "facts", "--encoding", "cp1252"))
+        self.assertIn(["CAF", "Caf\u00e9", "-"], self.rows("facts-mended", "halls"))
+        self.assertIn("Zo\u00eb Lin", [row[1] for row in self.rows("facts-mended", "candidates")])
+
     def spoiled(self, kind: str) -> str:
         """A file as a spreadsheet writes it that has turned numbers, dates and times into its own."""
         out = []

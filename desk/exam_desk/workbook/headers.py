@@ -109,6 +109,8 @@ def match_header(kind: str, row: int, heads: Mapping[str, list[int]], given: Giv
         places = [columns_of(heads, these) for these in words]
         if all(places):
             header.columns[name] = [columns[0] for columns in places]
+            if name not in given.headers:  # a table of Excel calls a second `Paper` Paper2
+                places = [columns_of(heads, [head for head in heads if head.rstrip("0123456789") in words[0]])]
         header.twice.update({name: columns for columns in places if len(columns) > 1})
     if kind == "candidates" and "name" not in {*given.headers, *given.fixed}:
         join_names(header, heads)

@@ -88,11 +88,12 @@ def comma_of(lines: list[str]) -> str:
 
 
 def read_csv(data: bytes, name: str, encoding: str | None = None) -> Book:
-    """A file of one sheet whose cells are texts."""
+    """A file of one sheet whose cells are texts. The encoding is for what is not UTF-8: others of a folder may be."""
     budget, sheet = Budget(), Sheet(name)
     cell_of = functools.cache(lambda shown: Cell("text", re.sub(r'\A="([^"]*)"\Z', r"\1", shown), shown))
     try:
-        text = data.decode(encoding or ("utf-16" if data.startswith(UTF_16) else "utf-8-sig"))
+        is_utf_8 = data.startswith(files.BOM) or b"\0" not in data and not data.isascii() and files.is_utf_8(data)
+        text = data.decode(not is_utf_8 and encoding or ("utf-16" if data.startswith(UTF_16) else "utf-8-sig"))
         comma = comma_of([line for line in text[:1 << 16].splitlines()[:20] if line.strip()])
         for record in files.records(text.encode(), comma.encode()):
             if not record.closed:

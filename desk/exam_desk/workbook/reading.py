@@ -40,8 +40,7 @@ def read_book(book: Book, job: Job) -> Job:
         job.note(text, what=text.rpartition(": ")[2])
     read_sheets(job, usable_sheets(job, book))
     if not job.records and not job.count("mistake"):
-        where = ": see `office template`" if job.way.is_command else ""
-        job.mistake(f"no sheet has rows of one of the seven kinds{where}")
+        job.mistake("no sheet has rows of one of the seven kinds" + ": see `office template`" * job.way.is_command)
     keep_codes(job)
     said = {line.place for line in job.lines if line.sort == "mistake"}
     for kind, rows in job.records.items():
@@ -134,12 +133,12 @@ def headers_of(job: Job, sheet: Sheet) -> dict[str, Header | None]:
 
 def named_papers(job: Job, sheets: list[Sheet]) -> set[str]:
     """The codes of papers that the office has or a sheet of papers names, before anything is read."""
-    codes = {code.decode() for code in job.known.keys["papers"] or ()} | {job.of_kind("papers").fixed.get("paper", "")}
+    codes = {code.decode("utf-8", "replace") for code in job.known.keys["papers"] or ()}
     for sheet in sheets:
         if (header := headers_of(job, sheet).get("papers")) and "paper" in header.columns:
             [place, *_] = header.columns["paper"]
             codes |= {job.said("paper", cells.get(place)) for row, cells in sheet.rows.items() if row > header.row}
-    return codes - {""}
+    return (codes | {job.of_kind("papers").fixed.get("paper", "")}) - {""}
 
 
 def tables_of(job: Job, sheet: Sheet) -> list[Table]:
@@ -166,10 +165,9 @@ def list_table(job: Job, sheet: Sheet, is_named: bool) -> list[Table]:
     name. A line says why it is none."""
     found = possible_headers("entries", sheet, job.of_kind("entries"), "number")
     paper = job.paper(Cell("text", sheet.name, sheet.name))
-    header = next((header for header in found if header.columns), None)
-    table = header and Table(job, "entries", sheet, header, paper)
-    if table and (paper or table.marks):
-        return [table]
+    for table in (Table(job, "entries", sheet, header, paper) for header in found if header.columns):
+        if paper or table.marks:
+            return [table]
     if is_named or paper:
         cure = "" if job.papers else "; no papers are known: put them into the workbook, or import them first"
         job.mistake("no row is a header with number and paper, with number alone on a sheet that bears the code of a "
@@ -195,9 +193,9 @@ def chosen(job: Job, kind: str, tables: list[Table]) -> list[Table]:
 # -- what `office check-files` would say of the files
 
 def keep_codes(job: Job) -> None:
-    """A candidate without a code keeps the one that the office has. One line tells of all others of a sheet."""
+    """Who has no code keeps that of the office, on a page once it imports; one line tells of all others of a sheet."""
     without: dict[str, list[Record]] = {}
-    for record in job.records.get("candidates", []):
+    for record in job.records.get("candidates", []) if job.way.is_command else ():  # a lost one may be new
         code = job.known.codes.get(files.encoded(record.fields[0]))
         if code and not record.fields[2]:
             record.fields[2] = code.decode()

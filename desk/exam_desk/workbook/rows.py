@@ -92,8 +92,9 @@ class Table:
         if above:
             self.note(self.header.row, None, "is taken as the header; what stands above it is not read")
         for row, cells in above:
-            is_row = 1 < len(self.places) and self.places <= cells.keys() and self.is_whole(cells)
-            if is_row or self.begins_other(row, cells):
+            read = {name for name, places in self.header.columns.items() if cells.keys() & places}
+            is_row = len(self.places & cells.keys()) > 1 and read - mistakes.NAMES - mistakes.CODES  # titles may be so
+            if is_row and self.is_whole(cells) or self.begins_other(row, cells):
                 self.mistake(row, None, f"stands above the header in row {self.header.row}: put it below, or delete it")
 
     def tell_names(self) -> None:
@@ -273,7 +274,8 @@ class Table:
 
     def is_whole(self, cells: Row) -> bool:
         """Whether a row has a value in each column, or one that may be empty."""
-        return all(self.job.said(name, cells.get(place)) for name, [place, *_] in self.header.columns.items())
+        return all(self.job.said(name, cells.get(place)) or name == "code"
+                   for name, [place, *_] in self.header.columns.items())
 
     # -- what a row says
 

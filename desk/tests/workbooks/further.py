@@ -170,7 +170,7 @@ case("dates-weekday-german-wrong", xlsx(sheet("Sessions", SESSIONS, ["S1", "Mitt
 case("rows-above-the-header", xlsx(sheet("Halls", ["AULA", "Aula", "-"], ["GYM", "Gym", "quiet"], HALLS, ["LAB", "Lab", "-"])), 1, only=True,
      mistakes=[["Halls!1", "above the header in row 3"], ["Halls!2", "above the header in row 3"]])
 case("table-above-a-larger-one", xlsx(sheet("Candidates", CANDIDATES[:2], ADA[:2], [], CANDIDATES, BO)), 1, only=True,
-     mistakes=[["Candidates!1", "above the header in row 4"]])
+     mistakes=[["Candidates!1", "above the header in row 4"], ["Candidates!2", "above the header in row 4"]])
 case("titles-above-the-header", xlsx(sheet("Halls", ["HALLS", "as of May 2027"], [2027, None, "draft"], HALLS, ["LAB", "Lab", "-"])),
      files={"halls": ["LAB,Lab,-"]}, told=[["Halls!3", "what stands above it is not read"]])
 case("csv-errors-and-hours", b"paper,title,session,minutes,requires\nMA-1,#N/A,S1,2,-\nMA-2,Maths,S1,90,-\n", suffix="csv",
@@ -427,3 +427,22 @@ case("called-like-a-total", xlsx(candidates(ADA, [None, "Sum Ting", "CODE0002"],
 case("joined-too-long", xlsx(sheet("Candidates", ["number", "Vorname", "Nachname", "code"], ["0000001", 50 * "a", 50 * "b",
      "CODE0001"])), 1, only=True, mistakes=[["Candidates!B2", "it has 101"]])
 in_candidates("string-value", ods_row(cell('office:value-type="string" office:string-value="0000001"'), *ADA[1:]), files=A, quiet=True)
+case("columns-that-a-table-numbers", xlsx(TWO_PAPERS, sheet("Entries", ["number", "Paper", "Paper2"], ["0000001", "MA-1", "FR"]),
+     sheet("Arrangements", ["number", "needs", "needs.1", "extra"], ["0000001", "quiet", "reader", 25])), 1, only=True,
+     mistakes=[["Entries!C1", "columns B, C could all be paper: keep one header"], ["Arrangements!C1", "columns B, C could all be needs"]])
+case("columns-that-a-table-numbers-and-a-file-tells-apart", xlsx(TWO_PAPERS, sheet("Entries", ["number", "Paper", "Paper2"], ["0000001", "MA-1", "FR"])),
+     files={"papers": TWO_LINES, "entries": ["0000001,MA-1"]}, args=["--columns", "{here}/columns.toml"],
+     beside={"columns.toml": '[entries]\npaper = "Paper"\n'}, told=[["Entries!C1", "the column 'Paper2' is not read"]])
+case("header-sorted-among-its-rows", xlsx(TWO_PAPERS, sheet("Candidates", ["0000001", "Ada Lin"], CANDIDATES, BO), sheet("Openings",
+     ["S1", "A", 10, "12:00"], OPENINGS, ["S2", "A", 10, "12:00", "no"]), sheet("Arrangements", ["0000001", "quiet"], ["0000002", None, 25],
+     ARRANGEMENTS), sheet("Entries", ["0000001", "x"], ["number", "MA-1", "FR"], ["0000002", None, "x"])), 1, only=True,
+     mistakes=[["Candidates!1", "above the header in row 2"], ["Openings!1", "above the header in row 2"], ["Arrangements!1", "above the header in row 3"],
+               ["Arrangements!2", "above the header in row 3"], ["Entries!1", "above the header in row 2"]])
+case("titles-like-codes-and-names", xlsx(sheet("Openings", ["OPENINGS", "2027"], ["S1", "HALLS", None, "May"], OPENINGS, ["S1", "A", 10, "12:00", "no"]),
+     sheet("Candidates", ["Form 7", "Ms Lin", "ROOM1234"], CANDIDATES, ADA)), files={"openings": ["S1,A,10,12:00,no"], "candidates": [ADA_LINE]})
+NAMED = {"suffix": "csv", "args": ["--encoding", "cp1252"], "files": {"candidates": ["0000001,Zo\u00eb,CODE0001"]}}
+for name, text in ("csv-utf-8-whatever-is-named", "number,name,code\n0000001,Zo\u00eb,CODE0001\n".encode()), (
+        "csv-with-a-mark-whatever-is-named", '\ufeff"number","name","code"\n"0000001","Zo\u00eb","CODE0001"\n'.encode()):
+    case(name, text, told=[["", "0 mistakes, 0 changes, 1 note"]], **NAMED)
+case("crosses-below-two-rows-of-headers", xlsx(TWO_PAPERS, sheet("Entries", ["Candidate", None, "Papers"], ["number", "name", "MA-1", "FR"],
+     ["0000001", "Ada Lin", "x", None])), files={"papers": TWO_LINES, "entries": ["0000001,MA-1"]}, told=[["Entries!2", "what stands above it is not read"]])
