@@ -148,9 +148,11 @@ def day_of(reading: Reading, session: str) -> str:
 def note_absent(office: Office, reading: Reading, session: str, missing: Iterable[str], there: Iterable[str] = (),
                 nobody: bool = False) -> set[str]:
     """Notes some as absent and others as there, or that nobody was absent; who is absent then. Raises `Trouble`, and
-    notes nothing, before the day of the session, where nobody is named, and where a number is no member's."""
-    day_of(reading, session)
+    notes nothing, before the day of the session, unless this only takes back what is noted from another day of it;
+    where nobody is named, and where a number is no member's."""
     missing, there = [*map(typed.candidate_number, missing)], [*map(typed.candidate_number, there)]
+    if missing or nobody or not absent(office, session):
+        day_of(reading, session)
     if not (missing or there or nobody):
         raise Trouble("nothing is noted: no number is given")
     if both := sorted({*missing} & {*there}):

@@ -333,6 +333,9 @@ class Told(sample.SampleSchool):
         would = self.office("what-if", "import", "sessions", moved)
         self.assertEqual([line for line in would.split("\n") if "NOTE" in line], [note])
         self.assertEqual(self.told("import", "sessions", moved)[-1], note)
+        self.assertIn("nobody can have been present", self.refused("absent", "MON-AM", "1000"))
+        self.assertEqual(self.office("absent", "MON-AM", "--there", "1051"), "0 candidates absent of 60\n")
+        self.assertIn("nobody can have been present", self.refused("absent", "MON-AM", "--there", "1051"))
 
     def test_papers_of_a_session_that_is_over(self):
         """0001051 sits in MON-AM and TUE-AM, too. Nobody prints papers of the day before again."""

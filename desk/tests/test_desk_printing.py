@@ -354,6 +354,19 @@ class TestTheDay(DeskSchool):
         self.assertIsNone(notebook.absent(self.value, "MON-AM"))
         self.assertNotIn("Was there after all", self.browser.get("/candidates/1051"))
 
+    def test_absences_of_a_session_that_gets_another_day(self):
+        """They are those of the old day, and can be taken back before the new one comes."""
+        page = "/sessions/MON-AM"
+        self.office("absent", "MON-AM", "0001051", "0001000")
+        self.office("import", "sessions", self.write("s.csv", "session,date,start\nMON-AM,2027-06-09,09:00\n"))
+        self.assertEqual(re.findall(r'name="was" value="(\d+)"', self.browser.get(page)), ["0001000", "0001051"])
+        self.assertNotIn("The list for the exam board", self.browser.words(page))
+        self.browser.post(page + "/absent", page, absent=["0001000"], was=["0001000", "0001051"])
+        self.assertEqual(notebook.absent(self.value, "MON-AM"), {"0001000"})
+        self.browser.post(page + "/absent", "/candidates/1000", was="0001000")
+        self.assertIsNone(notebook.absent(self.value, "MON-AM"))
+        self.assertNotIn('name="numbers"', self.browser.get(page))
+
     def test_what_a_colleague_has_noted_stays(self):
         """A list that was loaded before is sent, with one more tick in it, and without one that it showed."""
         page = "/sessions/MON-AM"
