@@ -61,7 +61,7 @@ def lacking(reading: Reading, sessions: list[str], is_list: bool) -> Iterator[st
             yield f"the exam board's list lacks who is noted as absent and has left {session}: {few(noted.gone)}"
     if is_list:
         yield from (f"{first['code']} is sat in {second['session']} too: `office absent {second['session']}` lists it"
-                    for first, second in second_sitting.pairs(reading.rows)
+                    for first, second in second_sitting.pairs(reading.rows, with_empty=False)
                     if first["session"] in sessions and second["session"] not in sessions)
 
 

@@ -343,6 +343,8 @@ class TestTheDay(DeskSchool):
         card = self.browser.get("/sessions/MON-AM").partition('id="absent"')[2]
         self.assertIn(f'<a href="{self.browser.prefix}/sessions/MON-AM-2">MON-AM-2</a>', card)
         self.assertNotIn(said[:20], self.browser.words("/sessions/MON-AM-2"))
+        self.office("second-sitting", "0001051", "LAT", "--undo", "--yes")
+        self.assertNotIn(said[:20], self.browser.words("/sessions/MON-AM"))
 
     def test_on_the_page_of_who_was_absent(self):
         """0001051 has two papers in MON-AM, and sits one; MON-PM is on that day too."""

@@ -314,7 +314,9 @@ class Commands(sample.SampleSchool):
         for words in (["11:15", "PC1"], ["--undo"]):
             self.office("second-sitting", "1051", "LAT", *words, "--yes")
         self.assertEqual(self.run_office("absent", "MON-AM-2").stderr, "")
-        self.assertEqual(self.run_office("absent").stderr.count("NOTE nobody has noted"), 2)
+        said = self.run_office("absent").stderr
+        self.assertEqual((said.count("NOTE nobody has noted"), said.count("NOTE")), (2, 2))
+        self.assertNotIn("MON-AM-2", self.run_office("absent", "MON-AM").stderr)
 
     def test_absent(self):
         self.environment["TODAY"] = "2027-06-07"
