@@ -29,11 +29,14 @@ UNLIKE = ("SELECT max(one.live IS NULL), 2 * sum(one.live <> 1) >= count(*) FROM
           "ON one.number = entry.number AND one.paper = ? WHERE entry.paper = ? AND entry.live = 1")
 CLOSED = (0, 24 * 60, False, 0)  # as OPENED says it of a hall that is to be open until the end of the day
 SAT = "SELECT paper FROM entry WHERE live = 1"
+WATCHED = ("SELECT DISTINCT printf('%07d', number) FROM entry JOIN paper ON code = paper WHERE session = ? "
+           "AND live = 1 AND number IN (SELECT number FROM entry WHERE paper = ? AND live = 1)")
 STAYS = "NOTE: second sittings stay as they are, though their papers are changed: {papers}; import rows for them too"
+ALONE = "NOTE: no sheet says any longer that somebody stays with these until their second sitting: {people}"
 ARRANGED = "NOTE: the arrangement of {person} is {one} in {first}, and {other} in {session}"
 SITS = "{person} sits {first} until {until}, and {paper} from {start} to {finish} in {hall}, desk {desk}"
 AGAIN, LACKS, MISSES = "{person} sits {paper} again", "{what} (has no desk)", "{what}, and misses {papers}"
-TEXTS = [STAYS, ARRANGED, SITS, AGAIN, LACKS, MISSES]
+TEXTS = [STAYS, ALONE, ARRANGED, SITS, AGAIN, LACKS, MISSES]
 
 
 class Plan(NamedTuple):
@@ -244,8 +247,13 @@ def refuse_otherwise(planned: Plan, after: Reading, first: Sitting, second: Memb
 
 
 def left_behind(before: Reading, after: Reading) -> list[Said]:
-    """What is said where second sittings stay as they are, and their papers or the sessions of these do not."""
+    """What is said where second sittings stay as they are, and their papers or the sessions of these do not; and where
+    nobody stays any more with who sits one, since they sit nothing before it, or it is none any more."""
     now = {row["code"]: row for row in after.rows.execute(PAPERS)}
     stay = [second["code"] for first, second in pairs(before.rows, with_empty=False)
             if now.get(first["code"]) != first and now.get(second["code"]) == second]
-    return [Said(STAYS, {"papers": stay})] if stay else []
+    were, are = ({(number, second["code"]) for first, second in pairs(each.rows, with_empty=False) for number, in
+                  each.rows.execute(WATCHED, [first["session"], second["code"]])} for each in (before, after))
+    alone = [f"{number} ({paper})" for number, paper in sorted(were - are) if is_live(after.rows, number, paper)]
+    said = Said(STAYS, {"papers": stay}), Said(ALONE, {"people": alone})
+    return [each for each in said if any(each.values.values())]
