@@ -352,6 +352,16 @@ class Commands(sample.SampleSchool):
         self.assertEqual(len([line for line in self.board() if line[4] == "absent"]), 2)
         self.assertIn("there is no session MON", self.refused("absent", "MON"))
 
+    def test_all_who_have_left_are_named(self):
+        """The list for the exam board lacks them, so that somebody must add them."""
+        self.environment["TODAY"] = "2027-06-07"
+        left = [f"000{number}" for number in range(1000, 1085, 17)]
+        self.office("absent", "MON-AM", *left)
+        for number in left:
+            self.run_office("withdraw", number, "--all")
+        self.assertEqual(self.run_office("absent", "MON-AM").stderr, "office: NOTE the exam board's list lacks who is noted as "
+                         f"absent and has left MON-AM: {', '.join(left)}\n")
+
     def test_numbers_that_come_in_are_those_of_the_office_as_it_is_then(self):
         self.environment["TODAY"] = "2027-06-07"
         with subprocess.Popen([sample.DESK / "office", "absent", "MON-AM", "-"], env=self.environment, text=True,
