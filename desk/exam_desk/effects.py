@@ -112,8 +112,8 @@ class Effects:
         noted = notebook.sessions_with(self.after.office, "absent") if moved else []
         left = [each for each in self.kinds.get("leaves", [])
                 if not notebook.is_to_come(self.after.office, days.get(each.session, "9"))]
-        return [*(f"NOTE: who only did not come stays entered: `office absent {each.session} {each.number}` notes it"
-                  for each in left[:1]),
+        return [*(f"NOTE: who only did not come stays entered, or is reinstated first: `office absent {each.session} "
+                  f"{each.number}` notes it" for each in left[:1]),
                 *(f"NOTE: absences of {code} are noted from {was[code]}: `office absent {code} --there NUMBER` takes "
                   "one back" for code in moved if code in noted)]
 

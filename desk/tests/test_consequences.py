@@ -310,9 +310,10 @@ class Told(sample.SampleSchool):
             is_over = self.environment["TODAY"] == "2027-06-08"
             would = self.office("what-if", *words)
             self.assertEqual(slip in would, is_over)
-            self.assertTrue(would.endswith("stays entered: `office absent MON-AM 0001000` notes it\n"), would)
-            first, *_, last, note = self.told(*words)
-            self.assertEqual(note, "NOTE: who only did not come stays entered: `office absent MON-AM 0001000` notes it")
+            note = "NOTE: who only did not come stays entered, or is reinstated first: `office absent MON-AM 0001000` notes it"
+            self.assertTrue(would.endswith(f"{note}\n"), would)
+            first, *_, last, said = self.told(*words)
+            self.assertEqual(said, note)
             met = len(re.findall("(?m)^[! ] MON-AM ", self.office("changes", "1")))
             self.assertGreater(met, 1)
             self.assertEqual((first == f"1 session that is over is changed: MON-AM of 2027-06-07 for {met} candidates",

@@ -386,7 +386,7 @@ class TestTheDay(DeskSchool):
         self.office("absent", "MON-AM", "0001051")
         self.assertNotIn("lacks them", self.browser.words(page))
         gone, _ = self.browser.post("/propose/withdraw", "/candidates/1051", number="0001051", paper=["CS-1", "LAT"])
-        self.assertIn("who only did not come stays entered: note the absence of 0001051 on the page of MON-AM",
+        self.assertIn("who only did not come stays entered, or is reinstated first: note the absence of 0001051 on the page of MON-AM",
                       self.browser.words(gone))
         self.browser.post(gone + "/do", gone)
         text, said = self.browser.get(page), self.browser.words(page)
