@@ -37,8 +37,8 @@ for name, paper in PAPERS.items():  # in place of that of slips another comes be
 @command.named("""\
 Prints a line for each session, with all its counts: summary [SESSION ..]
 
-They are members, seated, short, desks, free, clashes, overlaps, open appeals. A NOTE names two sessions at one time.
-Clashes are the candidates who miss a paper there, since another one is at the same time: `office clashes SESSION`.
+They are members, seated, short, desks, free, clashes, overlaps, open appeals. A NOTE names two sessions at one time,
+with SESSION all who are in both. Clashes are those who miss a paper, as they sit another: `office clashes SESSION`.
 Free desks beside candidates who are short are in halls that do not suit them: `office why SESSION` says why.
 """)
 def summary(parser: command.Parser) -> None:

@@ -28,7 +28,7 @@ OPENINGS = "SELECT session, hall FROM opening ORDER BY session, hall"
 OF_PLACES = [OVER, OPENED, HALLS, PRINTED]  # kinds that count sessions or halls, and not people
 COUNTED = ["gets", "leaves", "joins", "desk"]  # not named where the others are listed with what becomes of them
 UNLISTED = [OPENED, CODES]  # no command lists them, so all are named
-LISTED_BY = {CLASHES: "look --clashes", TWICE: "summary", HALLS: "summary", PRINTED: "printed"}  # others by `changes`
+LISTED_BY = {CLASHES: "look --clashes", TWICE: "summary {}", HALLS: "summary {}", PRINTED: "printed"}  # else `changes`
 MOST_NAMED = 3  # candidates in a short line, sessions or values
 
 
@@ -263,5 +263,6 @@ def where(kind: str, met: list[Met]) -> str:
 
 def listing(met: Groups, copy: int) -> list[str]:
     """What lists them: the changes since a copy where somebody sits otherwise; clashes, overlaps and papers."""
-    words = sorted({LISTED_BY.get(kind, f"changes {copy}") for kind in met if kind not in UNLISTED})
+    both = " ".join(sorted({each.session for kind in (TWICE, HALLS) for each in met.get(kind, ())}))
+    words = sorted({LISTED_BY.get(kind, f"changes {copy}").format(both) for kind in met if kind not in UNLISTED})
     return [f"`office {'; office '.join(words)}` lists them"] if words else []
