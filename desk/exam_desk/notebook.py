@@ -144,13 +144,13 @@ def day_of(reading: Reading, session: str) -> str:
     return day
 
 
-def note_absent(office: Office, reading: Reading, session: str, missing: Iterable[str], there: Iterable[str] = (),
+def note_absent(office: Office, reading: Reading, session: str, missing: Collection[str], there: Iterable[str] = (),
                 nobody: bool = False) -> set[str]:
     """Notes some as absent and others as there, or that nobody was absent; who is absent then. Raises `Trouble`, and
     notes nothing, where nobody is named, a number is no member's, or the day is to come: then it takes back alone."""
-    missing, there = [*map(typed.candidate_number, missing)], [*map(typed.candidate_number, there)]
     if missing or nobody or not absent(office, session):
         day_of(reading, session)
+    missing, there = [*map(typed.candidate_number, missing)], [*map(typed.candidate_number, there)]
     if not (missing or there or nobody):
         raise Trouble("nothing is noted: no number is given")
     if both := sorted({*missing} & {*there}):
