@@ -58,10 +58,10 @@ def lacking(reading: Reading, sessions: list[str], is_list: bool) -> Iterator[st
             yield (f"nobody has noted who was absent in {session}: all who have a desk are listed as present; "
                    f"`office absent {session} --nobody` notes that nobody was")
         if noted and noted.gone:
-            yield f"the exam board's list lacks who is noted as absent and has left {session}: {few(noted.gone)}"
+            yield f"the exam board's list lacks who is noted as absent and has left {session}: {', '.join(noted.gone)}"
     if is_list:
         yield from (f"{first['code']} is sat in {second['session']} too: `office absent {second['session']}` lists it"
-                    for first, second in second_sitting.pairs(reading.rows)
+                    for first, second in second_sitting.pairs(reading.rows, with_empty=False)
                     if first["session"] in sessions and second["session"] not in sessions)
 
 

@@ -37,8 +37,8 @@ for name, paper in PAPERS.items():  # in place of that of slips another comes be
 @command.named("""\
 Prints a line for each session, with all its counts: summary [SESSION ..]
 
-They are members, seated, short, desks, free, clashes, overlaps, open appeals. A NOTE names two sessions at one time.
-Clashes are the candidates who miss a paper there, since another one is at the same time: `office clashes SESSION`.
+They are members, seated, short, desks, free, clashes, overlaps, open appeals. A NOTE names two sessions at one time,
+with SESSION all who are in both. Clashes are those who miss a paper, as they sit another: `office clashes SESSION`.
 Free desks beside candidates who are short are in halls that do not suit them: `office why SESSION` says why.
 """)
 def summary(parser: command.Parser) -> None:
@@ -194,8 +194,7 @@ def look(parser: command.Parser) -> None:
             lines = [line for head in facts.sessions(reading.rows, given.words)
                      for line in texts.papers_at_once(reading, head["code"])] or ["nobody has two papers at once"]
     elif given.words:
-        asked = " ".join(given.words)
-        lines = of_few(command.office(), lambda reading: texts.asked_lines(reading, asked, given.codes))
+        lines = of_few(command.office(), lambda reading: texts.asked_lines(reading, " ".join(given.words), given.codes))
     else:
         parser.error("name a candidate")
     command.say_lines(lines, is_private=True)
@@ -236,8 +235,7 @@ def why(parser: command.Parser) -> bool:
     with command.reading() as reading:
         number = reading.person(typed.candidate_number(given.number)).number if given.number else None
         found, printed = reasons.compared(reading, given.session)
-        faults = list(found.faults(printed))
         helpful = [] if number else reasons.what_could_help(found, printed)
     command.say_private(found.text(number))
     command.say_lines(helpful)
-    return warned(faults)
+    return warned([*found.faults(printed)])

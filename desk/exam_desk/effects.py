@@ -23,12 +23,12 @@ FIGURES = ("SELECT code, coalesce(entered, 0), coalesce(seated, 0) FROM session 
 ENTERED = "SELECT session, printf('%07d', number) FROM entry JOIN paper ON code = paper WHERE live = 1"
 UNSEATED = f"{ENTERED} EXCEPT SELECT session, printf('%07d', number) FROM seat"  # who is, and has no seat there
 AT_ONCE = f"{ENTERED} GROUP BY session, number HAVING count(*) > 1"  # who has two live entries in a session
-OVER, OPENED, CLASHES, TWICE, HALLS, PRINTED, CODES = ("over", "opened", "clashes", "twice", "halls", "printed",
-                                                       "codes")
+OVER, OPENED, CLASHES, TWICE, HALLS, PRINTED, CODES = "over opened clashes twice halls printed codes".split()
 OPENINGS = "SELECT session, hall FROM opening ORDER BY session, hall"
 OF_PLACES = [OVER, OPENED, HALLS, PRINTED]  # kinds that count sessions or halls, and not people
 COUNTED = ["gets", "leaves", "joins", "desk"]  # not named where the others are listed with what becomes of them
-LISTED_BY = {CLASHES: "look --clashes", TWICE: "summary", HALLS: "summary", PRINTED: "printed"}  # others by `changes`
+UNLISTED = [OPENED, CODES]  # no command lists them, so all are named
+LISTED_BY = {CLASHES: "look --clashes", TWICE: "summary {}", HALLS: "summary {}", PRINTED: "printed"}  # else `changes`
 MOST_NAMED = 3  # candidates in a short line, sessions or values
 
 
@@ -112,8 +112,8 @@ class Effects:
         noted = notebook.sessions_with(self.after.office, "absent") if moved else []
         left = [each for each in self.kinds.get("leaves", [])
                 if not notebook.is_to_come(self.after.office, days.get(each.session, "9"))]
-        return [*(f"NOTE: who only did not come stays entered: `office absent {each.session} {each.number}` notes it"
-                  for each in left[:1]),
+        return [*(f"NOTE: who only did not come stays entered, or is reinstated first: `office absent {each.session} "
+                  f"{each.number}` notes it" for each in left[:1]),
                 *(f"NOTE: absences of {code} are noted from {was[code]}: `office absent {code} --there NUMBER` takes "
                   "one back" for code in moved if code in noted)]
 
@@ -167,15 +167,10 @@ def new_clashes(before: Reading, after: Reading, sessions: Iterable[str]) -> Ite
     name."""
     for session in sessions:
         old, new = (reading.clashes(session) for reading in (before, after))
-        others = [number for number in new if number not in old or (
-            at_once(after, session, number, new) - at_once(before, session, number, old))]
-        for person in by_name(after, others):
+        was, now = ({number: {reading.all_of(number)[session].paper, *papers} for number, papers in missed.items()}
+                    for reading, missed in ((before, old), (after, new)))
+        for person in by_name(after, [number for number, papers in now.items() if papers - was.get(number, set())]):
             yield session, person, new[person.number]
-
-
-def at_once(reading: Reading, session: str, number: str, missed: Mapping[str, list[str]]) -> set[str]:
-    """All papers of a session that somebody is entered for who misses some of them."""
-    return {reading.all_of(number)[session].paper, *missed[number]}
 
 
 def by_name(reading: Reading, numbers: Iterable[str]) -> list[Person]:
@@ -231,8 +226,7 @@ def on_old_paper(papers: Mapping[str, on_paper.Papers]) -> list[Met]:
 
 def noted(office: Office) -> list[str]:
     """As `done`, of the printed papers that `on_paper.otherwise` gives."""
-    found = on_old_paper(on_paper.otherwise(office))
-    met = {PRINTED: found} if found else {}
+    met = {PRINTED: found} if (found := on_old_paper(on_paper.otherwise(office))) else {}
     return headlines(met) + listing(met, 1)
 
 
@@ -260,7 +254,7 @@ def headlines(met: Groups) -> list[str]:
 
 def where(kind: str, met: list[Met]) -> str:
     if len(met) <= MOST_NAMED or kind in OF_PLACES or not met[0].session:
-        return few([each.who for each in met], MOST_NAMED, "; ")
+        return few([each.who for each in met], len(met) if kind in UNLISTED else MOST_NAMED, "; ")
     if len({each.person for each in met}) == 1:
         return met[0].person
     counts = Counter(each.session for each in met)
@@ -269,5 +263,6 @@ def where(kind: str, met: list[Met]) -> str:
 
 def listing(met: Groups, copy: int) -> list[str]:
     """What lists them: the changes since a copy where somebody sits otherwise; clashes, overlaps and papers."""
-    words = sorted({LISTED_BY.get(kind, f"changes {copy}") for kind in met if kind not in (OPENED, CODES)})
+    both = " ".join(sorted({each.session for kind in (TWICE, HALLS) for each in met.get(kind, ())}))
+    words = sorted({LISTED_BY.get(kind, f"changes {copy}").format(both) for kind in met if kind not in UNLISTED})
     return [f"`office {'; office '.join(words)}` lists them"] if words else []

@@ -42,8 +42,7 @@ def of_candidate(office: Office, number: str) -> Rows:
             raise NoCandidate(number)
         entries = rows.execute(COUNTING, [int(number)]).fetchall()
     papers = [paper for paper, day in entries if not office.is_over(day)]
-    over = [paper for paper, day in entries if office.is_over(day)]
-    if over:
+    if over := [paper for paper, day in entries if office.is_over(day)]:
         office.warn(f"NOTE entries in sessions that are over stay: {len(over)} ({few(over)}); "
                     f"`office withdraw {number} PAPER` withdraws one of them")
     if not papers:

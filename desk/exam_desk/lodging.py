@@ -68,5 +68,4 @@ def lodge(office: Office, words: Sequence[str]) -> Answered:
 
 def grant(lodged: Answered) -> Step:
     """The step that grants an appeal which is lodged."""
-    number, ref, *_ = lodged.first_line().split()
-    return Step(("decide", number, ref, "granted", ""))
+    return Step(("decide", *lodged.first_line().split()[:2], "granted", ""))

@@ -101,8 +101,7 @@ def take_notes(office: Office, new: Mapping[str, str]) -> Counter[str]:
 
 def log_numbers(office: Office, command: Sequence[str], found: Mapping[str, Iterable[str]]) -> None:
     """A line in the log that says what was done of which numbers, if of any; no text of a note."""
-    said = [f"{kind} {words.few(sorted(found[kind]), MOST_LOGGED)}" for kind in sorted(found) if found[kind]]
-    if said:
+    if said := [f"{kind} {words.few(sorted(found[kind]), MOST_LOGGED)}" for kind in sorted(found) if found[kind]]:
         logbook.write_done(office, command, 0, "; ".join(said))
 
 
@@ -145,11 +144,12 @@ def day_of(reading: Reading, session: str) -> str:
     return day
 
 
-def note_absent(office: Office, reading: Reading, session: str, missing: Iterable[str], there: Iterable[str] = (),
+def note_absent(office: Office, reading: Reading, session: str, missing: Collection[str], there: Iterable[str] = (),
                 nobody: bool = False) -> set[str]:
     """Notes some as absent and others as there, or that nobody was absent; who is absent then. Raises `Trouble`, and
-    notes nothing, before the day of the session, where nobody is named, and where a number is no member's."""
-    day_of(reading, session)
+    notes nothing, where nobody is named, a number is no member's, or the day is to come: then it takes back alone."""
+    if missing or nobody or not absent(office, session):
+        day_of(reading, session)
     missing, there = [*map(typed.candidate_number, missing)], [*map(typed.candidate_number, there)]
     if not (missing or there or nobody):
         raise Trouble("nothing is noted: no number is given")

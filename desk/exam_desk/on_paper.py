@@ -93,8 +93,7 @@ def lines_of(reading: Reading, session: str, among: Collection[str] | None = Non
 
 def sum_of(note: str) -> str:
     """What stands here for a note. Its text may be of health, and goes where the note is taken away."""
-    is_sum = re.fullmatch("(#[0-9a-f]{12})?", note)
-    return note if is_sum else f"#{hashlib.sha256(note.encode()).hexdigest()[:12]}"
+    return note if re.fullmatch("(#[0-9a-f]{12})?", note) else f"#{hashlib.sha256(note.encode()).hexdigest()[:12]}"
 
 
 def of_notebook(office: Office) -> dict[str, str]:

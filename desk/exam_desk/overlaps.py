@@ -4,7 +4,7 @@ The rules of the office allow it, so it is noted and not refused. Until when som
 only of those whom the rows leave in doubt: nobody sits in a hall for longer than it is open.
 """
 import itertools
-from collections.abc import Collection, Iterable, Iterator, Mapping
+from collections.abc import Collection, Iterable, Iterator, Mapping, Sequence
 from typing import NamedTuple
 
 from exam_desk import facts
@@ -13,7 +13,7 @@ from exam_desk.reading import Reading, Sitting
 from exam_desk.words import clock, few
 
 LONGEST = 1200  # minutes that somebody without a desk may sit: those of the longest paper, and as many more
-MOST_LINES = 20
+MOST_LINES, MOST_NAMED = 20, 3  # overlaps; of one of them candidates, or halls
 SESSIONS = "SELECT code, CAST(julianday(day) * 1440 AS INTEGER) + start AS begins FROM session ORDER BY begins, code"
 IN_BOTH = ("SELECT DISTINCT NULL, printf('%07d', entry.number) FROM session JOIN paper ON paper.session = session.code "
            "JOIN entry ON entry.paper = paper.code "
@@ -129,14 +129,16 @@ def of_day(clock: str) -> int:
     return int(hours) * 60 + int(minutes)
 
 
-def line(reading: Reading, each: Overlap) -> str:
+def line(reading: Reading, each: Overlap, is_whole: bool = False) -> str:
+    most = len(each.candidates) + len(each.halls) if is_whole else MOST_NAMED
     people = [reading.person(number).shown() for number in each.candidates]
-    both = f"{count(len(people), 'candidate')} in both: {few(people)}" if people else ""
-    halls = f"candidates of both in {few(each.halls)}" if each.halls else ""
+    both = f"{count(len(people), 'candidate')} in both: {few(people, most)}" if people else ""
+    halls = f"candidates of both in {few(each.halls, most)}" if each.halls else ""
     return f"{each.early} and {each.late} overlap: {'; '.join(filter(None, (both, halls)))}"
 
 
-def lines(reading: Reading, found: Collection[Overlap]) -> list[str]:
-    """A line for each, and one for those that are too many."""
-    rest = [f".. and {count(len(found) - MOST_LINES, 'more overlap')}"] if len(found) > MOST_LINES else []
-    return [*(line(reading, each) for each in itertools.islice(found, MOST_LINES)), *rest]
+def lines(reading: Reading, found: Sequence[Overlap], is_whole: bool) -> list[str]:
+    """A line for each with all who are in both; else with the first of these, and one for those that are too many."""
+    shown = found if is_whole else found[:MOST_LINES]
+    rest = [f".. and {count(len(found) - MOST_LINES, 'more overlap')}"] if len(shown) < len(found) else []
+    return [*(line(reading, each, is_whole) for each in shown), *rest]

@@ -28,12 +28,15 @@ OPENED = ("SELECT desks, until, reserved, (SELECT count(*) FROM seat WHERE (sess
 UNLIKE = ("SELECT max(one.live IS NULL), 2 * sum(one.live <> 1) >= count(*) FROM entry LEFT JOIN entry AS one "
           "ON one.number = entry.number AND one.paper = ? WHERE entry.paper = ? AND entry.live = 1")
 CLOSED = (0, 24 * 60, False, 0)  # as OPENED says it of a hall that is to be open until the end of the day
-SAT = "SELECT 1 FROM entry WHERE paper = ? AND live = 1"
+SAT = "SELECT paper FROM entry WHERE live = 1"
+WATCHED = ("SELECT DISTINCT printf('%07d', number) FROM entry JOIN paper ON code = paper WHERE session = ? "
+           "AND live = 1 AND number IN (SELECT number FROM entry WHERE paper = ? AND live = 1)")
 STAYS = "NOTE: second sittings stay as they are, though their papers are changed: {papers}; import rows for them too"
+ALONE = "NOTE: no sheet says any longer that somebody stays with these until their second sitting: {people}"
 ARRANGED = "NOTE: the arrangement of {person} is {one} in {first}, and {other} in {session}"
 SITS = "{person} sits {first} until {until}, and {paper} from {start} to {finish} in {hall}, desk {desk}"
 AGAIN, LACKS, MISSES = "{person} sits {paper} again", "{what} (has no desk)", "{what}, and misses {papers}"
-TEXTS = [STAYS, ARRANGED, SITS, AGAIN, LACKS, MISSES]
+TEXTS = [STAYS, ALONE, ARRANGED, SITS, AGAIN, LACKS, MISSES]
 
 
 class Plan(NamedTuple):
@@ -133,12 +136,13 @@ def first_papers(rows: Rows, second: sqlite3.Row) -> list[sqlite3.Row]:
     return found
 
 
-def pairs(rows: Rows) -> list[tuple[sqlite3.Row, sqlite3.Row]]:
-    """Each paper that may be made of another for second sittings, behind that one."""
+def pairs(rows: Rows, with_empty: bool = True) -> list[tuple[sqlite3.Row, sqlite3.Row]]:
+    """Each paper that may be made of another for second sittings, behind that one; or those alone that are sat."""
     codes = [code for code, in rows.execute("SELECT code FROM session")]
     later = {each for each in codes if each[-1:].isdecimal() for code in codes if is_numbered(each, code)}
-    return [(first, second) for second in rows.execute(f"{PAPERS} ORDER BY day, start, paper.code").fetchall()
-            if second["session"] in later for first in first_papers(rows, second)]
+    found = rows.execute(f"{PAPERS} WHERE ? OR paper.code IN ({SAT}) ORDER BY day, start, paper.code", [with_empty])
+    return [(first, second) for second in found.fetchall() if second["session"] in later
+            for first in first_papers(rows, second)]
 
 
 def elsewhere(reading: Reading, members: Iterable[Member]) -> dict[str, list[str]]:
@@ -243,9 +247,13 @@ def refuse_otherwise(planned: Plan, after: Reading, first: Sitting, second: Memb
 
 
 def left_behind(before: Reading, after: Reading) -> list[Said]:
-    """What is said where second sittings stay as they are, and their papers or the sessions of these do not."""
+    """What is said where second sittings stay as they are, and their papers or the sessions of these do not; and where
+    nobody stays any more with who sits one, since they sit nothing before it, or it is none any more."""
     now = {row["code"]: row for row in after.rows.execute(PAPERS)}
-    stay = [second["code"] for first, second in pairs(before.rows)
-            if now.get(first["code"]) != first and now.get(second["code"]) == second
-            and after.rows.execute(SAT, [second["code"]]).fetchone()]
-    return [Said(STAYS, {"papers": stay})] if stay else []
+    stay = [second["code"] for first, second in pairs(before.rows, with_empty=False)
+            if now.get(first["code"]) != first and now.get(second["code"]) == second]
+    were, are = ({(number, second["code"]) for first, second in pairs(each.rows, with_empty=False) for number, in
+                  each.rows.execute(WATCHED, [first["session"], second["code"]])} for each in (before, after))
+    alone = [f"{number} ({paper})" for number, paper in sorted(were - are) if is_live(after.rows, number, paper)]
+    said = Said(STAYS, {"papers": stay}), Said(ALONE, {"people": alone})
+    return [each for each in said if any(each.values.values())]

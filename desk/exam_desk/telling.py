@@ -35,7 +35,6 @@ KINDS = {  # in which ways a change meets people, sessions and halls, the graves
     "codes": ("has another access code, and a slip that opens nothing",
               "have other access codes, and slips that open nothing"),
 }
-TO_TELL, DESK_ALONE = ("to tell",) * 2, ("with another desk only",) * 2
 
 TO_COME = "session IN (SELECT code FROM {moment}.session WHERE day >= :since)"
 ENTERED = ("SELECT DISTINCT session FROM {moment}.paper JOIN {moment}.entry ON entry.paper = paper.code "
@@ -221,12 +220,13 @@ def text(changes: Collection[Change]) -> str:
     telling = [change.number for change in changes if change.is_to_tell()]
     told = set(telling)
     others = [change.number for change in changes if change.number not in told]
-    lines, last = [], ", ".join(counted(words, who) for words, who in ((TO_TELL, telling), (DESK_ALONE, others)) if who)
+    both = ("to tell", telling), ("with another desk only", others)
+    lines, last = [], ", ".join(counted((words, words), who) for words, who in both if who)
     for kind, part in by_kind(changes).items():
         mark = "!" if part[0].is_to_tell() else " "
         lines += [f"{counted(KINDS[kind], [change.number for change in part])}:",
                   *(f"{mark} {change.session} {change.person()}: {change.what()}" for change in part)]
-    return "".join(f"{line}\n" for line in [*lines, last or "nothing changed"])
+    return "".join(f"{line}\n" for line in [*lines, last or "nobody sits otherwise"])
 
 
 def counted(words: tuple[str, str], who: Collection[object]) -> str:

@@ -69,7 +69,7 @@ def page(code: str) -> str:
     before, _, after = [None, *codes, None][codes.index(code):][:3]
     lodged = view().rows(f"{APPEALS} WHERE appeal.session = ? ORDER BY state, appeal.number, ref LIMIT ?",
                          [code, MOST_PEOPLE + 1])
-    pairs = second_sitting.pairs(view().reading.rows)
+    pairs = second_sitting.pairs(view().reading.rows, with_empty=False)
     return render_template("session.html", shown=shown, s=shown.sums, lodged=lodged, previous=before, next=after,
                            absences=notebook.absences(view().reading, code), foot=on_paper.mark(view().reading),
                            seconds=sorted({second["session"] for first, second in pairs if first["session"] == code}),

@@ -71,7 +71,7 @@ FORMED = [*filter(OF_FILES.search, itertools.chain(*map(sentences, [
           *filter(re.compile("is no candidate number").search, sentences(typed)),
           *filter(re.compile(r"is meant$|is meant \(|\d} digits;|none of the|two digits|too, |^there is no"
                              r"|Write |not a time").search, sentences(values)), "has seconds: {0}",
-          "NOTE: who only did not come stays entered: `office absent {0} {1}` notes it",
+          "NOTE: who only did not come stays entered, or is reinstated first: `office absent {0} {1}` notes it",
           "NOTE: absences of {0} are noted from {1}: `office absent {2} --there NUMBER` takes one back",
           *(f"{{0}} {word}" for word in ("number", "numbers", "candidate", "candidates", "desk", "desks", "(new)")),
           "{0} and {1} more", "line {0}"]

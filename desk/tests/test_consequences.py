@@ -160,6 +160,21 @@ class Told(sample.SampleSchool):
         self.office("close-hall", "TUE-AM", "R14")  # whoever was there has a desk elsewhere, or none moves
         self.assertIn("open again: TUE-AM R14 ", "\n".join(self.told("open-hall", "TUE-AM", "R14", "1", "09:01")))
 
+    def test_whom_no_command_lists_is_named(self):
+        """All whose slips open nothing after `back`, and all halls that open again: there are no other lists of them."""
+        numbers = [f"000{number}" for number in range(1000, 1085, 17)]
+        for number in numbers:
+            self.run_office("codes", number)
+        [line] = self.told("back", str(len(numbers)), "--yes")
+        self.assertTrue(line.startswith("5 have other access codes, and slips that open nothing: "), line)
+        self.assertEqual(sorted(re.findall(r"\b\d{7}\b", line)), numbers)
+        self.assertEqual(self.office("changes", "1"), "nobody sits otherwise\n")
+        halls = ["AULA", "GYM", "LIB", "PC1", "R12"]
+        for hall in halls:
+            self.run_office("close-hall", "MON-AM", hall)
+        line, *_ = self.told("import", "openings", str(self.examples / "openings.csv"))
+        self.assertEqual(re.findall(r"MON-AM (\w+) \(closed on ", line), halls)
+
     def test_who_has_no_desk_in_several_sessions_is_one(self):
         """GYM has one desk in each session: of its candidates the lowest numbers stay, so the others are the same people."""
         codes = ["MON-AM", "MON-PM", "TUE-AM"]
@@ -188,7 +203,7 @@ class Told(sample.SampleSchool):
                          "1 to tell\n")
         self.told("withdraw", "0001000", "MA-2")
         self.assertIn("! MON-AM 0001000 Ada Lin: no longer misses MA-2\n", self.office("changes", "1"))
-        self.assertEqual(self.office("changes", "2"), "nothing changed\n")
+        self.assertEqual(self.office("changes", "2"), "nobody sits otherwise\n")
 
     def test_a_clash_of_other_papers(self):
         """0001306 sits LAT and misses MA-2; then sits CS-1 and misses LAT. As many are missed, and the papers are others."""
@@ -241,7 +256,8 @@ class Told(sample.SampleSchool):
         self.assertRegex(self.office("what-if", "import", "candidates", several),
                          "\n5 have other access codes, and slips that open nothing\n  .*: needs a new slip\n")
         [line] = self.told("import", "candidates", several)
-        self.assertRegex(line, "^5 have other access codes, and slips that open nothing: 00010.* and 2 more$")
+        self.assertRegex(line, "^5 have other access codes, and slips that open nothing: 00010")
+        self.assertEqual(sorted(re.findall(r"\b\d{7}\b", line)), sorted(row[0] for row in rows[1:]))
 
     def test_printed_papers_are_out_of_date(self):
         """Where a desk is another by the change than on paper; in no other hall, and only if somebody noted them."""
@@ -310,9 +326,10 @@ class Told(sample.SampleSchool):
             is_over = self.environment["TODAY"] == "2027-06-08"
             would = self.office("what-if", *words)
             self.assertEqual(slip in would, is_over)
-            self.assertTrue(would.endswith("stays entered: `office absent MON-AM 0001000` notes it\n"), would)
-            first, *_, last, note = self.told(*words)
-            self.assertEqual(note, "NOTE: who only did not come stays entered: `office absent MON-AM 0001000` notes it")
+            note = "NOTE: who only did not come stays entered, or is reinstated first: `office absent MON-AM 0001000` notes it"
+            self.assertTrue(would.endswith(f"{note}\n"), would)
+            first, *_, last, said = self.told(*words)
+            self.assertEqual(said, note)
             met = len(re.findall("(?m)^[! ] MON-AM ", self.office("changes", "1")))
             self.assertGreater(met, 1)
             self.assertEqual((first == f"1 session that is over is changed: MON-AM of 2027-06-07 for {met} candidates",
@@ -333,6 +350,9 @@ class Told(sample.SampleSchool):
         would = self.office("what-if", "import", "sessions", moved)
         self.assertEqual([line for line in would.split("\n") if "NOTE" in line], [note])
         self.assertEqual(self.told("import", "sessions", moved)[-1], note)
+        self.assertIn("nobody can have been present", self.refused("absent", "MON-AM", "1000"))
+        self.assertEqual(self.office("absent", "MON-AM", "--there", "1051"), "0 candidates absent of 60\n")
+        self.assertIn("nobody can have been present", self.refused("absent", "MON-AM", "--there", "1051"))
 
     def test_papers_of_a_session_that_is_over(self):
         """0001051 sits in MON-AM and TUE-AM, too. Nobody prints papers of the day before again."""

@@ -343,6 +343,8 @@ class TestTheDay(DeskSchool):
         card = self.browser.get("/sessions/MON-AM").partition('id="absent"')[2]
         self.assertIn(f'<a href="{self.browser.prefix}/sessions/MON-AM-2">MON-AM-2</a>', card)
         self.assertNotIn(said[:20], self.browser.words("/sessions/MON-AM-2"))
+        self.office("second-sitting", "0001051", "LAT", "--undo", "--yes")
+        self.assertNotIn(said[:20], self.browser.words("/sessions/MON-AM"))
 
     def test_on_the_page_of_who_was_absent(self):
         """0001051 has two papers in MON-AM, and sits one; MON-PM is on that day too."""
@@ -353,6 +355,19 @@ class TestTheDay(DeskSchool):
         self.browser.post("/sessions/MON-AM/absent", "/candidates/1051", was="0001051")
         self.assertIsNone(notebook.absent(self.value, "MON-AM"))
         self.assertNotIn("Was there after all", self.browser.get("/candidates/1051"))
+
+    def test_absences_of_a_session_that_gets_another_day(self):
+        """They are those of the old day, and can be taken back before the new one comes."""
+        page = "/sessions/MON-AM"
+        self.office("absent", "MON-AM", "0001051", "0001000")
+        self.office("import", "sessions", self.write("s.csv", "session,date,start\nMON-AM,2027-06-09,09:00\n"))
+        self.assertEqual(re.findall(r'name="was" value="(\d+)"', self.browser.get(page)), ["0001000", "0001051"])
+        self.assertNotIn("The list for the exam board", self.browser.words(page))
+        self.browser.post(page + "/absent", page, absent=["0001000"], was=["0001000", "0001051"])
+        self.assertEqual(notebook.absent(self.value, "MON-AM"), {"0001000"})
+        self.browser.post(page + "/absent", "/candidates/1000", was="0001000")
+        self.assertIsNone(notebook.absent(self.value, "MON-AM"))
+        self.assertNotIn('name="numbers"', self.browser.get(page))
 
     def test_what_a_colleague_has_noted_stays(self):
         """A list that was loaded before is sent, with one more tick in it, and without one that it showed."""
@@ -371,7 +386,7 @@ class TestTheDay(DeskSchool):
         self.office("absent", "MON-AM", "0001051")
         self.assertNotIn("lacks them", self.browser.words(page))
         gone, _ = self.browser.post("/propose/withdraw", "/candidates/1051", number="0001051", paper=["CS-1", "LAT"])
-        self.assertIn("who only did not come stays entered: note the absence of 0001051 on the page of MON-AM",
+        self.assertIn("who only did not come stays entered, or is reinstated first: note the absence of 0001051 on the page of MON-AM",
                       self.browser.words(gone))
         self.browser.post(gone + "/do", gone)
         text, said = self.browser.get(page), self.browser.words(page)

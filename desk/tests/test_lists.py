@@ -66,7 +66,7 @@ class Lists(sample.SampleSchool):
 
     def test_changes(self):
         before = self.copy()
-        self.assertEqual(self.office("changes", before), "nothing changed\n")
+        self.assertEqual(self.office("changes", before), "nobody sits otherwise\n")
         for place in ("none", self.folder):
             self.assertIn("there is no copy and no file", self.refused("changes", os.path.join(place, "none")))
         self.office("withdraw", "0001306", "LAT")
@@ -79,7 +79,7 @@ class Lists(sample.SampleSchool):
         self.assertEqual([line for line in lines if line.endswith(":")],
                          ["1 sits another paper:", "13 have other desks in the same hall:"])
         self.assertEqual(self.office("changes", "1", "--tell").split("\n"), [*lines[:2], "1 to tell", ""])
-        self.assertEqual(self.office("changes", os.path.join(before, "office.db"), "TUE-AM"), "nothing changed\n")
+        self.assertEqual(self.office("changes", os.path.join(before, "office.db"), "TUE-AM"), "nobody sits otherwise\n")
         self.office("close-hall", "MON-AM", "R12")
         self.assertIn("! MON-AM 0001748 Tomas Costa: R12 desk 2 -> no desk\n", self.office("changes", "1"))
         self.office("withdraw", "0001748", "MA-1")

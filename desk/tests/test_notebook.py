@@ -314,7 +314,9 @@ class Commands(sample.SampleSchool):
         for words in (["11:15", "PC1"], ["--undo"]):
             self.office("second-sitting", "1051", "LAT", *words, "--yes")
         self.assertEqual(self.run_office("absent", "MON-AM-2").stderr, "")
-        self.assertEqual(self.run_office("absent").stderr.count("NOTE nobody has noted"), 2)
+        said = self.run_office("absent").stderr
+        self.assertEqual((said.count("NOTE nobody has noted"), said.count("NOTE")), (2, 2))
+        self.assertNotIn("MON-AM-2", self.run_office("absent", "MON-AM").stderr)
 
     def test_absent(self):
         self.environment["TODAY"] = "2027-06-07"
@@ -349,6 +351,16 @@ class Commands(sample.SampleSchool):
         self.assertIn(f"'{'a' * 57}..' is no candidate number", self.refused("absent", "MON-AM", "a" * 99))
         self.assertEqual(len([line for line in self.board() if line[4] == "absent"]), 2)
         self.assertIn("there is no session MON", self.refused("absent", "MON"))
+
+    def test_all_who_have_left_are_named(self):
+        """The list for the exam board lacks them, so that somebody must add them."""
+        self.environment["TODAY"] = "2027-06-07"
+        left = [f"000{number}" for number in range(1000, 1085, 17)]
+        self.office("absent", "MON-AM", *left)
+        for number in left:
+            self.run_office("withdraw", number, "--all")
+        self.assertEqual(self.run_office("absent", "MON-AM").stderr, "office: NOTE the exam board's list lacks who is noted as "
+                         f"absent and has left MON-AM: {', '.join(left)}\n")
 
     def test_numbers_that_come_in_are_those_of_the_office_as_it_is_then(self):
         self.environment["TODAY"] = "2027-06-07"

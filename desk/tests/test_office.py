@@ -320,7 +320,7 @@ class Words(sample.SampleSchool):
         self.assertIn("1 leaves a session:\n! MON-AM 0001000", text)
         self.assertEqual(self.office("changes", "1", "--tell", "MON-AM"), text)
         self.assertEqual(self.office("changes", "--tell", "1", "MON-AM"), text)
-        self.assertEqual(self.office("changes", "1", "--tell", "TUE-AM"), "nothing changed\n")
+        self.assertEqual(self.office("changes", "1", "--tell", "TUE-AM"), "nobody sits otherwise\n")
         self.assertEqual(self.office("look", "ada", "--codes", "lin"), self.office("look", "ada", "lin", "--codes"))
 
     def test_help_is_in_the_words_that_can_be_typed(self):

@@ -85,6 +85,21 @@ class Overlaps(sample.SampleSchool):
         self.assertNotIn("at one time", told)
 
 
+class All(sample.SampleSchool):
+    def test_the_summary_of_a_session_names_all(self):
+        """That of the season the first of them; what a change says leads to all whom it names."""
+        path = self.write("s.csv", "session,date,start\nMON-PM,2027-06-07,09:30\n")
+        told = self.run_office("import", "sessions", path).stderr
+        self.assertIn("60 are in two sessions at one time: 60 in MON-PM\n", told)
+        self.assertIn("`office changes 1; office summary MON-AM MON-PM` lists them\n", told)
+        [first] = re.findall("NOTE: .*", self.office("summary"))
+        self.assertRegex(first, r"60 candidates in both: 0001000 .*, 0001017 .*, 0001034 .* and 57 more; .* and 2 more$")
+        for sessions in (["MON-PM"], ["MON-AM", "MON-PM"]):
+            [whole] = re.findall("NOTE: .*", self.office("summary", *sessions))
+            self.assertEqual(len(re.findall(r"\b0\d{6} ", whole)), 60)
+            self.assertTrue(whole.endswith("; candidates of both in AULA, GYM, LIB, PC1, R12"), whole)
+
+
 class Lines(unittest.TestCase):
     def test_whoever_sits_longest_sits_for_twenty_hours(self):
         """For 600 minutes, and as many more: a session that begins later meets nobody of the first."""
@@ -99,8 +114,10 @@ class Lines(unittest.TestCase):
         """Twenty have a line each; of more the last line says how many these are."""
         for count, last in ((20, "A and B overlap: candidates of both in H"), (21, ".. and 1 more overlap"),
                             (22, ".. and 2 more overlaps")):
-            said = overlaps.lines(None, [overlaps.Overlap("A", "B", [], ["H"])] * count)
+            found = [overlaps.Overlap("A", "B", [], ["H"])] * count
+            said = overlaps.lines(None, found, False)
             self.assertEqual((len(said), said[-1]), (min(count, 21), last))
+            self.assertEqual(overlaps.lines(None, found, True), ["A and B overlap: candidates of both in H"] * count)
 
 
 class Files(sample.SampleSchool):

@@ -13,7 +13,7 @@ import breaking
 import cells
 import sample
 import test_changing
-from exam_desk import lists, second_sitting
+from exam_desk import files, lists, second_sitting
 from exam_desk.reading import Reading, Sitting
 
 KILLS, SEED = 5, 20271129
@@ -47,6 +47,12 @@ class SecondSitting(test_changing.Changing):
         with contextlib.closing(sqlite3.connect(self.path)) as file:
             return file.execute(statement).fetchall()
 
+    def told(self, session):
+        """By number what the invigilators' sheet of a session says of second sittings."""
+        rows = cells.Cells(self.office("doors", session)).rows
+        return {row[1]: [line for line in row[5].split("|") if line.startswith(("stay", "watched"))]
+                for row in rows if row[0].isdigit()}
+
     def refuses(self, said, *words):
         """A refusal says this, and changes nothing."""
         now, copies = self.state(), len(self.kept())
@@ -76,12 +82,6 @@ class There(SecondSitting):
                       "to print again: doors of R14; slips\n", self.office("printed", "MON-AM", "--look"))
         listed = self.run_office("absent", "MON-AM", TODAY="2027-06-07")
         self.assertIn("NOTE MA-1 is sat in MON-AM-2 too: `office absent MON-AM-2` lists it\n", listed.stderr)
-
-    def told(self, session):
-        """By number what the invigilators' sheet of a session says of second sittings."""
-        rows = cells.Cells(self.office("doors", session)).rows
-        return {row[1]: [line for line in row[5].split("|") if line.startswith(("stay", "watched"))]
-                for row in rows if row[0].isdigit()}
 
     def test_nobody_is_left_alone_between_three_papers(self):
         """0000003 has three at once, and two second sittings: until the last of them somebody stays."""
@@ -435,6 +435,25 @@ class LeftBehind(SecondSitting):
         self.assertEqual(done.stderr.split("\n")[0], said[0])
         self.second(*ONE[:2], "--undo")
         self.assertEqual(self.stay("papers", paper.replace("120", "90")), [])
+
+    def test_who_has_nothing_else_then_comes_alone(self):
+        """Nobody stays any more with who leaves the other paper, or sits it elsewhere; nor with anybody once the paper is
+        no second sitting, since who was never entered for its own sits it too. A note names them once."""
+        def note(*people):
+            return str(second_sitting.Said(second_sitting.ALONE, {"people": [f"{each} (MA-1-2)" for each in people]}))
+        self.office("open-hall", "MON-AM", "R14", "9", "18:00")
+        for number in ("0000002", "0000003"):
+            self.second(number, *ONE[1:])
+        for file, row in (("entries", "0001051,MA-1-2"), ("papers", "LAT,Latin,TUE-AM,90,-")):
+            header = ",".join(files.HEADERS[file])
+            said = self.office("what-if", "import", file, self.write("f.csv", f"{header}\n{row}\n"))
+            self.assertEqual(said.split("\n")[1], note("0000002", "0000003"))
+        self.assertNotIn("NOTE", self.office("what-if", "withdraw", "3", "--all"))
+        self.assertEqual(self.run_office("withdraw", "3", "LAT").stderr.split("\n")[0], note("0000003"))
+        self.assertEqual(self.told("MON-AM-2"), {"0000002": ["watched since 10:30, comes from R14"], "0000003": []})
+        self.assertNotIn("NOTE", self.run_office("withdraw", "1000", "MA-1").stderr)
+        self.second(*ONE[:2], "--undo")
+        self.assertEqual(self.seats("MON-AM")["0000003"][0], "MA-1")
 
     def test_a_page_says_it_in_the_language_of_the_reader(self):
         from flask import Flask

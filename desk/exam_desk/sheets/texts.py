@@ -123,7 +123,7 @@ def summary(reading: Reading, asked: Collection[str] = ()) -> str:
         [[waiting]] = reading.rows.execute("SELECT count(*) FROM appeal WHERE session = ? AND state = 1", [code])
         lines.append(SUMMARY.format(code, day, clock(start), len(members), seated, len(members) - seated, desks,
                                     desks - seated, len(reading.clashes(code)), twice[code], waiting))
-    return "".join([*lines, *(f"NOTE: {each}\n" for each in overlaps.lines(reading, found))])
+    return "".join([*lines, *(f"NOTE: {each}\n" for each in overlaps.lines(reading, found, bool(asked)))])
 
 
 def session_sheets(reading: Reading, session: str, lines: int, columns: int, progress: Callable[[str], None]) -> str:
