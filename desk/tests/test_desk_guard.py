@@ -1,6 +1,8 @@
 """Who comes in at the desk in a browser, and what a page may do: each threat with a test."""
+import base64
 import contextlib
 import fcntl
+import hashlib
 import json
 import os
 import pathlib
@@ -248,6 +250,20 @@ class TestPages(DeskSchool):
         answer, text = self.browser.ask("GET", "/sessions/MON-AM/print/doors")
         self.assertRegex(answer.headers["Content-Security-Policy"], "style-src 'self' 'sha256-[A-Za-z0-9+/=]+'")
         self.assertEqual(text.count("<style"), 1)
+
+    def test_a_sheet_is_laid_out_by_all_of_its_own_style(self):
+        """A chart has its letters by the number of desks in a row, which its table says."""
+        for hall, across in ("GYM", "6"), ("AULA", "14"):
+            self.office("rows", hall, across)
+        for path in "chart?hall=GYM", "chart?hall=AULA&hall=GYM", "cards":
+            answer, text = self.browser.ask("GET", f"/sessions/MON-AM/print/{path}")
+            policy = answer.headers["Content-Security-Policy"]
+            attributes = re.findall(" style='([^']*)'", text)
+            self.assertEqual(len(attributes), path.count("="), path)
+            for style in [*re.findall("<style>(.*?)</style>", text, re.S), *attributes]:
+                self.assertIn(f" 'sha256-{base64.b64encode(hashlib.sha256(style.encode()).digest()).decode()}'", policy)
+            self.assertIn("'unsafe-hashes'", policy)  # else no hash is that of an attribute
+            self.assertNotIn("unsafe-inline", policy)
 
     def test_hostile_texts(self):
         names = ['<script>alert("x")</script>', '"><img src=x onerror=alert(1)>', "Ana \u202egnorts\u202c Silva",
