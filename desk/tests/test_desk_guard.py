@@ -85,6 +85,18 @@ for fault in (*(OSError(each, os.strerror(each), '/there') for each in (errno.EN
 """
 
 
+ELSEWHERE = MAKE + """
+from unittest import mock
+from exam_desk import turns
+app.extensions['guard'].visits = {guard.digest('secret'): guard.Visit('ab', 'x')}
+client = app.test_client()
+client.set_cookie('localhost', 'desk', 'secret')
+with mock.patch.object(turns, 'keep_state', lambda _: {'pid': 0}):
+    answer = client.get('/office')
+print(answer.status_code, answer.text.partition('id="serve"')[2].partition('<form')[0])
+"""
+
+
 def routes():
     """Each address of the desk, filled in, with its methods."""
     done = subprocess.run([PYTHON, "-c", TABLE, DESK], capture_output=True, text=True, check=True)
@@ -411,6 +423,12 @@ class TestFaults(unittest.TestCase):
         self.assertRegex(mistake, "^500 .*the desk is wrong here; the office is as the log says")
         for answer, said in zip(nameless, ("broken off", "database disk image is malformed"), strict=True):
             self.assertRegex(answer, f"^500 .*>{said}<")
+
+    def test_a_service_in_another_container(self):
+        """Its process has no number here, and nobody sees what it has said of itself."""
+        done = subprocess.run([PYTHON, "-c", ELSEWHERE, DESK], capture_output=True, text=True, check=True)
+        self.assertRegex(done.stdout, "(?s)^200 .*>the candidates' page is served from another container or another machine: "
+                                      "stop it there<")
 
     def test_a_command_leads_to_the_page_that_does_what_it_does(self):
         done = subprocess.run([PYTHON, "-c", SAID, DESK], capture_output=True, text=True, check=True)
