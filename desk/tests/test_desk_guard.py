@@ -69,6 +69,17 @@ for seconds in (5 * 3600, 5 * 3600, 8 * 3600 + 1):
     found.append(len(here.visits))
 print(*found)
 """
+ASLEEP = MAKE + """
+from unittest import mock
+here = app.extensions['guard']
+here.visits = {guard.digest('secret'): guard.Visit('ab', 'x')}
+client = app.test_client()
+client.set_cookie('localhost', 'desk', 'secret')
+now = guard.time.time()
+for hours in 7, 14, 22.1, 0:
+    with mock.patch.object(guard.time, 'time', lambda: now + 3600 * hours):
+        print(client.get('/candidates').headers['Location'])
+"""
 FAULTS = MAKE + """
 import errno, logging, os, sqlite3
 app.logger.setLevel(logging.CRITICAL)
@@ -411,6 +422,11 @@ class TestIdle(unittest.TestCase):
     def test_a_visit_ends_after_eight_hours_without_a_click(self):
         done = subprocess.run([PYTHON, "-c", IDLE, DESK], capture_output=True, text=True, check=True)
         self.assertEqual(done.stdout.split(), ["/", "/", "2", "/", "1", "/enter?ended=1", "0"])  # the other one has no clicks
+
+    def test_a_night_in_which_the_machine_sleeps_counts(self):
+        """Then the clock goes on, and what counts the seconds of the machine's work does not."""
+        done = subprocess.run([PYTHON, "-c", ASLEEP, DESK], capture_output=True, text=True, check=True)
+        self.assertEqual(done.stdout.split(), ["/", "/", "/enter?ended=1", "/enter?ended=1"])
 
 
 @unittest.skipUnless(HAS_FLASK, "Flask or waitress is missing")
