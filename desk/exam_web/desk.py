@@ -265,8 +265,7 @@ def keep(found: dict[str, Any], most: int, value: object) -> str:
     """Keeps a thing of a visit under a key that nobody guesses, and drops the oldest beyond so many; gives the key."""
     while len(found) >= most:
         found.pop(next(iter(found)))
-    key = secrets.token_urlsafe(9)
-    found[key] = value
+    found[key := secrets.token_urlsafe(9)] = value
     return key
 
 
