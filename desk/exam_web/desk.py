@@ -28,7 +28,7 @@ from exam_desk.office import Office, Trouble
 from exam_desk.reading import Reading
 from exam_web.wording import refused, text
 
-STYLE = re.compile("<style>(.*?)</style>| style='(.*?)'", re.S)  # of a sheet; what stands for values has no such signs
+STYLE = re.compile("<style>(.*?)</style>| style='(.*?)'", re.S)  # of a sheet: no value in it has a `<` or a quote
 Found = TypeVar("Found")
 Given = ParamSpec("Given")
 Form = MultiDict[str, str]
