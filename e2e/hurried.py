@@ -116,7 +116,7 @@ def look_back(page, faults):
     page.js("history.back()")
     page.until("document.readyState === 'complete' && document.title.startsWith('MON-AM')")
     ticked = page.js("[...document.querySelectorAll('#absent [name=absent]')].map((each) => each.checked).join()")
-    faults.expect(ticked == "true", f"of one who is noted as absent the boxes are {ticked} after Back")
+    faults.expect(ticked == "true,true", f"of two who are noted as absent the boxes are {ticked} after Back")
 
 
 def give(page, files):

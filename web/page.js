@@ -187,7 +187,7 @@ function logOut(said = current ? TEXTS.loggedOutBusy : TEXTS.loggedOut) {
   byId("number").focus();
 }
 
-/** Logs out who has left the device. */
+/** Logs out who has left the device, at the latest when somebody touches it again: while it sleeps nothing looks. */
 function endIdle() {
   if (candidate && Date.now() - touched > IDLE) logOut(TEXTS.loggedOutIdle);
 }
@@ -290,7 +290,7 @@ function start() {
   byId("print").addEventListener("click", () => print());
   byId("logout").addEventListener("click", () => logOut());
   byId("login").addEventListener("input", () => entering?.leave()); // somebody else types: nobody waits for this answer
-  for (const kind of ["pointerdown", "keydown"]) addEventListener(kind, () => (touched = Date.now()));
+  for (const kind of ["pointerdown", "keydown"]) addEventListener(kind, () => { endIdle(); touched = Date.now(); });
   document.addEventListener("visibilitychange", comeBack);
   setInterval(endIdle, FRESH);
   byId("retract").addEventListener("close", () => byId("retract").returnValue === "yes" && step(retract));

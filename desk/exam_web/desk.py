@@ -6,6 +6,7 @@ import contextlib
 import dataclasses
 import hashlib
 import os
+import re
 import secrets
 import sqlite3
 import threading
@@ -27,6 +28,7 @@ from exam_desk.office import Office, Trouble
 from exam_desk.reading import Reading
 from exam_web.wording import refused, text
 
+STYLE = re.compile("<style>(.*?)</style>| style='(.*?)'", re.S)  # of a sheet: no value in it has a `<` or a quote
 Found = TypeVar("Found")
 Given = ParamSpec("Given")
 Form = MultiDict[str, str]
@@ -263,15 +265,14 @@ def keep(found: dict[str, Any], most: int, value: object) -> str:
     """Keeps a thing of a visit under a key that nobody guesses, and drops the oldest beyond so many; gives the key."""
     while len(found) >= most:
         found.pop(next(iter(found)))
-    key = secrets.token_urlsafe(9)
-    found[key] = value
+    found[key := secrets.token_urlsafe(9)] = value
     return key
 
 
 def styled(page: str) -> str:
-    """A sheet, whose own style the policy of this answer lets through, and no other."""
-    style = page[page.index("<style>") + len("<style>"):page.index("</style>")]
-    g.style = f" 'sha256-{base64.b64encode(hashlib.sha256(style.encode()).digest()).decode()}'"
+    """A sheet, whose own style, at its head and at its tables, the policy of this answer lets through, and no other."""
+    hashes = {hashlib.sha256("".join(style).encode()).digest() for style in STYLE.findall(page)}
+    g.style = "".join(f" 'sha256-{base64.b64encode(each).decode()}'" for each in hashes) + " 'unsafe-hashes'"
     return page
 
 

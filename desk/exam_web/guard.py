@@ -22,7 +22,7 @@ pages = Blueprint("entering", __name__)
 INITIALS = re.compile(r"[\w.-]{1,12}")
 MOST_TOKEN = 200
 LINK_SECONDS = 600  # of a link that nobody opened
-IDLE_SECONDS = 8 * 3600
+IDLE_SECONDS = 8 * 3600  # by the clock, which goes on while the machine sleeps
 MOST_UPLOAD = 32 << 20  # bytes of a request
 MOST_FROM_STRANGERS = 4096  # bytes of a request without a visit
 LINKS, COOKIE, MARK = "links", "desk", "mark"
@@ -43,7 +43,7 @@ class Visit:
     """A browser that came in by a link. All of it goes when the desk ends or the screen is locked."""
     initials: str  # of who works
     mark: str  # stands in each form
-    seen: float = field(default_factory=time.monotonic)
+    seen: float = field(default_factory=time.time)
     said: list[tuple[str, Any]] = field(default_factory=list)  # what the next page says once
     proposals: dict[str, Any] = field(default_factory=dict)
     uploads: dict[str, Any] = field(default_factory=dict)
@@ -126,9 +126,9 @@ class Guard:
 
     def found(self) -> Visit | None:
         """The visit of the cookie. Those that were idle too long are over, whoever asks, and what they brought goes."""
-        now = time.monotonic()
+        now = time.time()
         with self.lock:
-            self.visits = {key: visit for key, visit in self.visits.items() if now - visit.seen <= IDLE_SECONDS}
+            self.visits = {key: visit for key, visit in self.visits.items() if abs(now - visit.seen) <= IDLE_SECONDS}
             if found := self.visits.get(digest(request.cookies.get(COOKIE, ""))):
                 found.seen = now
             return found

@@ -61,13 +61,12 @@ def copy(key: str) -> str:
     path = copy_of(key)
     when, what = copies.when_and_what(path)
     since = g.visit.backup.when if copies.is_brought(path) else when
-    lost = copies.losses(desk().office, path)
     now: View | None = None
     with contextlib.suppress(Trouble):  # the office is not there, or cannot be read
         now = view()
     return render_template("copy.html", key=key, when=when, what=what, is_brought=copies.is_brought(path), since=since,
-                           e=compared(now, path) if now else None, most=MOST_ROWS, doubt=copies.OTHERS, lost=lost,
-                           held=[] if now else [*sums(view_of(path)).values()],
+                           e=compared(now, path) if now else None, most=MOST_ROWS, doubt=copies.OTHERS,
+                           lost=copies.losses(desk().office, path), held=[] if now else [*sums(view_of(path)).values()],
                            names=facts.candidate_names(now.reading.rows) if now else {},
                            log=done_since(desk().office, since)[:-MOST_LINES - 1:-1])
 

@@ -183,7 +183,7 @@ def work(plan: Plan, task: Callable[[Plan, Desk, Office], None]) -> None:
             plan.against = [WRONG_DESK]
             raise
     plan.against = []
-    plan.working = threading.Thread(target=run, daemon=True)
+    plan.working = threading.Thread(target=run, daemon=task is not carry_out)  # for a change the end of the desk waits
     plan.working.start()
     plan.working.join(PATIENCE)
 

@@ -69,8 +69,8 @@ def asks(upload: Upload, looked: Mapping[str, Looked]) -> bool:
 
 
 def corrected(kind: str, content: bytes, faults: list[Mistake], form: Form) -> tuple[bytes, int]:
-    """The file with what was typed, or with all clear cures, and how many of its rows are other ones; every other value
-    keeps its bytes."""
+    """The file with what was typed, with all clear cures too if these are asked for, and how many of its rows are other
+    ones; every other value keeps its bytes."""
     wrong = {line: [*found] for line, found in itertools.groupby(faults, lambda each: each.line)}
     rows, others = [files.HEADERS[kind]], 0
     for record in below_header(content):
@@ -91,8 +91,8 @@ def corrected_row(kind: str, fields: list[str], faults: list[Mistake], form: For
         if each.column in files.HEADERS[kind]:
             place = files.HEADERS[kind].index(each.column)
             had = plain(fields[place].encode("utf-8", "surrogateescape").decode("utf-8", "replace"))  # on the page
-            value = each.write or had if "all" in form else form.get(name, had)
-            found[place] = fields[place] if value == had else value[:MOST_VALUE]
+            typed, clear = form.get(name, had), each.write if "all" in form else ""
+            found[place] = typed[:MOST_VALUE] if typed != had else clear or fields[place]
     return found
 
 

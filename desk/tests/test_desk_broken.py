@@ -6,6 +6,7 @@ import os
 import pathlib
 import random
 import re
+import subprocess
 import threading
 import time
 import unittest
@@ -16,6 +17,7 @@ import test_changing
 from exam_desk import snapshot, turns
 from test_desk_files import Uploads
 
+WAITING = 7  # seconds; a server waits 5 for its threads
 HALLS = b"hall,title,features\nR20,Room 20,-\n"
 OPENINGS = b"session,hall,desks,until,reserved\nMON-AM,R20,9,14:00,no\n"
 
@@ -84,6 +86,26 @@ class Broken(Uploads):
         page = re.search(r'/office/copies/[0-9a-f]{16}(?=")', self.browser.get("/"))[0]
         self.browser.post(page + "/back", page)
         self.assertEqual(self.state(), before)
+        self.assertNotIn("A change was broken off", self.browser.words("/"))
+
+    def test_a_change_under_way_is_carried_out_whole(self):
+        """As where a new version is installed, or the machine stops: the desk waits for longer than for its pages."""
+        self.end()
+        slow = self.write("slow", "")
+        self.environment["EXAMOFFICE"] = self.program(f'if [ "$2 $5 $6" = "{self.path} import halls" ]; then '
+                                                      f"while [ -e {slow} ]; do sleep 0.05; done; fi")
+        self.start()
+        proposal = self.proposed()
+        self.browser.post(proposal + "/do", proposal)
+        self.process.terminate()
+        with contextlib.suppress(subprocess.TimeoutExpired):
+            self.process.wait(WAITING)
+        os.remove(slow)
+        self.process.communicate(timeout=sample.PATIENCE)
+        with turns.alone(self.value, ["look"]):  # where the desk has ended before, once its program has
+            pass
+        self.assertEqual(self.rows("SELECT desks FROM opening WHERE hall = 'R20'"), [(9,)])
+        self.start()
         self.assertNotIn("A change was broken off", self.browser.words("/"))
 
 

@@ -636,6 +636,15 @@ class TestFiles(Uploads):
         self.browser.post(page + "/correct", page, **{"candidates:2:name": 401 * "x"})
         self.assertRegex(self.browser.ask("GET", page + "/candidates.csv")[1], '"0012001","x{400}",')
 
+    def test_what_was_typed_stays_where_the_clear_corrections_are_taken(self):
+        """One form has both buttons; what was typed counts also where another correction is clear."""
+        page = self.upload(("entries.csv", b"number,paper\n1051,EN1\n1068,EN-1\n1085,EN-1\n"))
+        self.browser.post(page + "/correct", page, all="1", **{"entries:2:number": "1051", "entries:2:paper": "EN-1",
+                                                             "entries:3:number": "0001119"})
+        self.assertIn("No mistake", self.browser.words(page))
+        self.assertEqual(self.browser.ask("GET", page + "/entries.csv")[1],
+                         '"number","paper"\n"0001051","EN-1"\n"0001119","EN-1"\n"0001085","EN-1"\n')
+
     def test_a_page_from_before_a_correction_corrects_nothing(self):
         """Behind a row that is left out, what was line 4 is line 3."""
         page = self.upload(("halls.csv", HALLS + b"R20,Other,-\nR21,Room,PC\nR22,Room,PX\n"))

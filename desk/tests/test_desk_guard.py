@@ -1,6 +1,8 @@
 """Who comes in at the desk in a browser, and what a page may do: each threat with a test."""
+import base64
 import contextlib
 import fcntl
+import hashlib
 import json
 import os
 import pathlib
@@ -67,6 +69,17 @@ for seconds in (5 * 3600, 5 * 3600, 8 * 3600 + 1):
     found.append(len(here.visits))
 print(*found)
 """
+ASLEEP = MAKE + """
+from unittest import mock
+here = app.extensions['guard']
+here.visits = {guard.digest('secret'): guard.Visit('ab', 'x')}
+client = app.test_client()
+client.set_cookie('localhost', 'desk', 'secret')
+now = guard.time.time()
+for hours in 7, 14, 22.1, 0:
+    with mock.patch.object(guard.time, 'time', lambda: now + 3600 * hours):
+        print(client.get('/candidates').headers['Location'])
+"""
 FAULTS = MAKE + """
 import errno, logging, os, sqlite3
 app.logger.setLevel(logging.CRITICAL)
@@ -80,6 +93,18 @@ for fault in (*(OSError(each, os.strerror(each), '/there') for each in (errno.EN
               OSError('broken off'), sqlite3.DatabaseError('database disk image is malformed')):
     answer = client.get('/')
     print(answer.status_code, ' '.join(answer.text.split()))
+"""
+
+
+ELSEWHERE = MAKE + """
+from unittest import mock
+from exam_desk import turns
+app.extensions['guard'].visits = {guard.digest('secret'): guard.Visit('ab', 'x')}
+client = app.test_client()
+client.set_cookie('localhost', 'desk', 'secret')
+with mock.patch.object(turns, 'keep_state', lambda _: {'pid': 0}):
+    answer = client.get('/office')
+print(answer.status_code, answer.text.partition('id="serve"')[2].partition('<form')[0])
 """
 
 
@@ -249,6 +274,20 @@ class TestPages(DeskSchool):
         self.assertRegex(answer.headers["Content-Security-Policy"], "style-src 'self' 'sha256-[A-Za-z0-9+/=]+'")
         self.assertEqual(text.count("<style"), 1)
 
+    def test_a_sheet_is_laid_out_by_all_of_its_own_style(self):
+        """A chart has its letters by the number of desks in a row, which its table says."""
+        for hall, across in ("GYM", "6"), ("AULA", "14"):
+            self.office("rows", hall, across)
+        for path in "chart?hall=GYM", "chart?hall=AULA&hall=GYM", "cards":
+            answer, text = self.browser.ask("GET", f"/sessions/MON-AM/print/{path}")
+            policy = answer.headers["Content-Security-Policy"]
+            attributes = re.findall(" style='([^']*)'", text)
+            self.assertEqual(len(attributes), path.count("="), path)
+            for style in [*re.findall("<style>(.*?)</style>", text, re.S), *attributes]:
+                self.assertIn(f" 'sha256-{base64.b64encode(hashlib.sha256(style.encode()).digest()).decode()}'", policy)
+            self.assertIn("'unsafe-hashes'", policy)  # else no hash is that of an attribute
+            self.assertNotIn("unsafe-inline", policy)
+
     def test_hostile_texts(self):
         names = ['<script>alert("x")</script>', '"><img src=x onerror=alert(1)>', "Ana \u202egnorts\u202c Silva",
                  "{{ 7 * 7 }}",
@@ -384,6 +423,11 @@ class TestIdle(unittest.TestCase):
         done = subprocess.run([PYTHON, "-c", IDLE, DESK], capture_output=True, text=True, check=True)
         self.assertEqual(done.stdout.split(), ["/", "/", "2", "/", "1", "/enter?ended=1", "0"])  # the other one has no clicks
 
+    def test_a_night_in_which_the_machine_sleeps_counts(self):
+        """Then the clock goes on, and what counts the seconds of the machine's work does not."""
+        done = subprocess.run([PYTHON, "-c", ASLEEP, DESK], capture_output=True, text=True, check=True)
+        self.assertEqual(done.stdout.split(), ["/", "/", "/enter?ended=1", "/enter?ended=1"])
+
 
 @unittest.skipUnless(HAS_FLASK, "Flask or waitress is missing")
 class TestFaults(unittest.TestCase):
@@ -395,6 +439,12 @@ class TestFaults(unittest.TestCase):
         self.assertRegex(mistake, "^500 .*the desk is wrong here; the office is as the log says")
         for answer, said in zip(nameless, ("broken off", "database disk image is malformed"), strict=True):
             self.assertRegex(answer, f"^500 .*>{said}<")
+
+    def test_a_service_in_another_container(self):
+        """Its process has no number here, and nobody sees what it has said of itself."""
+        done = subprocess.run([PYTHON, "-c", ELSEWHERE, DESK], capture_output=True, text=True, check=True)
+        self.assertRegex(done.stdout, "(?s)^200 .*>the candidates' page is served from another container or another machine: "
+                                      "stop it there<")
 
     def test_a_command_leads_to_the_page_that_does_what_it_does(self):
         done = subprocess.run([PYTHON, "-c", SAID, DESK], capture_output=True, text=True, check=True)

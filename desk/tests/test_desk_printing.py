@@ -334,6 +334,19 @@ class TestTheDay(DeskSchool):
         self.assertNotIn('"absent"', self.office("absent", "MON-AM"))
         self.assertEqual(self.seats(), before)
 
+    def test_what_was_ticked_stays_where_a_number_is_wrong(self):
+        """What was ticked in the list of a hall, which is loaded anew, stands with the numbers that were typed."""
+        page = "/sessions/MON-AM"
+        self.office("absent", "MON-AM", "0001051", "0001119")
+        _, text = self.browser.post(page + "/absent", page, 422, numbers="1000 9999999", was=["0001051", "0001119"],
+                                    absent=["0001119", "0001306", "0001306"])
+        self.assertEqual(re.findall(r'name="absent" value="(\d+)"( checked)?', text),
+                         [("0001051", ""), ("0001119", " checked")])
+        self.assertIn('name="numbers" class="long" autocomplete="off" value="1000 9999999 0001306"', text)
+        self.browser.post(page + "/absent", page, numbers="1000 0001306", was=["0001051", "0001119"], absent=["0001119"])
+        self.assertEqual(notebook.absent(self.value, "MON-AM"), {"0001000", "0001119", "0001306"})
+        self.assertEqual(self.browser.get(page).count('name="absent" value="0001119" checked'), 1)
+
     def test_the_list_for_the_exam_board_leads_to_those_of_second_sittings(self):
         """0001051 sits CS-1 in MON-AM, and LAT later that day: the list of MON-AM lacks this."""
         said = "Second sittings of its papers are in lists of their own: MON-AM-2"

@@ -1,6 +1,7 @@
 """What the desk in a browser is seldom asked: ports that others have, forms that are gone, files of changes."""
 import contextlib
 import csv
+import fcntl
 import io
 import os
 import re
@@ -74,6 +75,14 @@ class Seldom(DeskSchool):
         before = self.seats()
         self.assertEqual(self.browser.post("/init", "/office")[0], "/")
         self.assertEqual(self.seats(), before)
+
+    def test_a_service_of_which_nothing_is_known(self):
+        """One that begins just now has said nothing of itself yet."""
+        with turns.lock_file(self.value, "keep.lock") as lock:
+            self.assertTrue(turns.try_lock(lock, lock=fcntl.lockf))
+            words = self.browser.words("/office")
+        self.assertIn("not serving now It begins, or a change has the office just now. It tries again by itself.", words)
+        self.assertIn("Download the office as it is now", words)
 
     def test_what_the_service_does_not_know(self):
         self.browser.post("/office/keep", "/office", 400, what="begin", port="8080")

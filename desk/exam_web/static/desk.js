@@ -182,15 +182,19 @@ addEventListener("drop", async (event) => {
   send(drop, found.flat());
 });
 
-// each hall has a list of its own to tick who is absent: one is sent with all; who stands in two is ticked in both
+// each hall has a list of its own to tick who is absent: one is sent with all, and with the numbers that are typed; who
+// stands in two is ticked in both
 addEventListener("change", (event) => {
   if (event.target.name !== "absent") return;
   for (const box of document.querySelectorAll(`input[name=absent][value="${event.target.value}"]`)) box.checked = event.target.checked;
 });
 addEventListener("formdata", (event) => {
   if (!event.target.action.endsWith("/absent")) return;
+  const numbers = document.querySelector("#absent [name=numbers]");
+  if (numbers && numbers.form !== event.target) event.formData.append("numbers", numbers.value);
+  delete numbers?.form.dataset.typed;
   for (const box of document.querySelectorAll("input[name=absent]")) {
-    const isOther = box.form !== event.target && box.checked !== box.defaultChecked;
+    const isOther = box.form !== event.target && box.checked !== (box.nextElementSibling?.name === "was");
     if (isOther) event.formData.append(box.checked ? "absent" : "was", box.value);
     delete box.form.dataset.typed;  // its ticks are sent, too
   }
